@@ -1,0 +1,6 @@
+pub mod RunLaws
+pub mod WholeLaws
+pub mod HouseLaws
+pub mod DeviceLaws
+pub mod OwnLaws
+pub mod EntryLaws

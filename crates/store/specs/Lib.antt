@@ -1,0 +1,6 @@
+pub mod Device
+pub mod House
+pub mod Promise
+pub mod Account
+pub mod Own
+pub mod Entry

@@ -1,0 +1,10 @@
+pub mod TestLaws
+pub mod KeyLaws
+pub mod LatestLaws
+pub mod KeptLaws
+pub mod SeenLaws
+pub mod SortLaws
+pub mod MergeLaws
+pub mod ForgettingLaws
+pub mod VisibleLaws
+pub mod OrderLaws

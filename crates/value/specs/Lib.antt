@@ -1,0 +1,6 @@
+pub mod Versions
+pub mod Rising
+pub mod Answers
+pub mod Sorted
+pub mod Order
+pub mod Count

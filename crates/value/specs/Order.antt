@@ -1,0 +1,11 @@
+-- The order of two keys, as `order` answers it: by bytes, a beginning before what it begins.
+use mathlib.Core.Path.{_≡_}
+use mathlib.Core.List.{List}
+use Prim.Native.Nat.{ℕ}
+use Rattle.value.specs.Versions.{pick, same, before}
+use Rattle.value.specs.declared.key.Reply.{Reply}
+use Rattle.value.specs.declared.key.Reply.the-variants.{Before, Same, Behind}
+
+-- two keys, of any length
+unfoldable pub Order-says : (as₁ bs : List ℕ) → Reply → Type 0
+Order-says as₁ bs r = r ≡ pick (before as₁ bs) Before (pick (same as₁ bs) Same Behind)
