@@ -4,3 +4,4 @@ pub mod HouseLaws
 pub mod DeviceLaws
 pub mod OwnLaws
 pub mod EntryLaws
+pub mod WorkedLaws

@@ -1,5 +1,6 @@
 pub mod Device
 pub mod House
+pub mod Worked
 pub mod Promise
 pub mod Account
 pub mod Own

@@ -10,3 +10,4 @@ pub use laws::own_is_whole;
 pub use laws::settled_stays;
 pub use laws::steps_suffice;
 pub use laws::stop_twice;
+pub use laws::worked_out;

@@ -8,3 +8,4 @@ pub mod MergeLaws
 pub mod ForgettingLaws
 pub mod VisibleLaws
 pub mod OrderLaws
+pub mod UpstreamLaws

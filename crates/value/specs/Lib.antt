@@ -4,3 +4,4 @@ pub mod Answers
 pub mod Sorted
 pub mod Order
 pub mod Count
+pub mod Upstream

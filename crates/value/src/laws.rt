@@ -1,5 +1,6 @@
 // The laws of versions, each a function whose contract is the law.
 ghost use Rattle.value.specs.Answers.{Not-missed, Twice-once, Range-right, Later-first, Write-seen};
+ghost use Rattle.value.specs.Upstream.{Streams-agree, Streams-differ};
 ghost use Rattle.value.specs.Sorted.{Sort-orders, Sort-weighs, Lookup-right, Merge-right, Push-right, Forget-right, Visible-right};
 
 // What is forgotten is not missed, from the moment on.
@@ -60,4 +61,14 @@ pub fn stream_forgets()
 // A walk over the sorted view shows exactly what is seen, and a range of it.
 pub fn stream_shows()
     ensures { λ _. ⌜ Visible-right ⌝ }
+{}
+
+// Upstream's streams' cases, as far as the definitions agree with them.
+pub fn streams_agree()
+    ensures { λ _. ⌜ Streams-agree ⌝ }
+{}
+
+// Upstream's streams' cases that the definitions answer otherwise on purpose.
+pub fn streams_differ()
+    ensures { λ _. ⌜ Streams-differ ⌝ }
 {}

@@ -16,5 +16,7 @@ pub use laws::sort_orders;
 pub use laws::sort_weighs;
 pub use laws::stream_forgets;
 pub use laws::stream_shows;
+pub use laws::streams_agree;
+pub use laws::streams_differ;
 pub use laws::twice_once;
 pub use laws::write_seen;
