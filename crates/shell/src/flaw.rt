@@ -1,0 +1,55 @@
+// What can be wrong with a line, so that it is no command.
+use std::alloc::AllocError;
+use std::alloc::Refused;
+use std::fmt;
+
+#[derive(Clone, Copy)]
+pub enum Flaw {
+    NoMemory,
+    NotClosed,
+    NoEscape,
+    NoHexDigit,
+    NoBlank,
+    NoSuchCommand,
+    NoMoment,
+    NoActs,
+    NoPart,
+    // What was expected.
+    Form(&'static str),
+}
+
+impl Flaw {
+    fn text(&self) -> &'static str {
+        match self {
+            Flaw::NoMemory => "there is no memory for so long a line",
+            Flaw::NotClosed => "a double quote is not closed",
+            Flaw::NoEscape => "after \\ in quotes comes \", \\, n, t or xNN",
+            Flaw::NoHexDigit => "after \\x come two hexadecimal digits",
+            Flaw::NoBlank => "after a closing quote comes a blank",
+            Flaw::NoSuchCommand => "there is no such command; help lists them",
+            Flaw::NoMoment => "a moment is a number from 0 to 18446744073709551615",
+            Flaw::NoActs => "a number of acts is from 0 to 18446744073709551615",
+            Flaw::NoPart => "what is left of a page is 0, 1 or 2",
+            Flaw::Form(form) => form,
+        }
+    }
+}
+
+pub impl fmt::Display for Flaw as FlawDisplay {
+    fn fmt<W: fmt::Write>(&self, f: &mut fmt::Formatter<W>) -> fmt::Result {
+        let text = self.text();
+        write!(f, "{text}")
+    }
+}
+
+pub impl From<AllocError> for Flaw as FlawFromAlloc {
+    fn from(_: AllocError) -> Flaw {
+        Flaw::NoMemory
+    }
+}
+
+pub impl<T: Drop> From<Refused<T>> for Flaw as FlawFromRefused {
+    fn from(_: Refused<T>) -> Flaw {
+        Flaw::NoMemory
+    }
+}
