@@ -2,7 +2,8 @@
 --   blank        a byte between words
 --   turn-at      the place after a byte, and what the byte does; or what is wrong
 --   end-at       what the end of the line does at a place
---   taken, put-off   the word in hand and the words so far, after a deed
+--   in-hand      the bytes of the word in hand, after a deed
+--   so-far       the words that have ended, after a deed
 --   words-of     the words of a line, each with whether it stood in quotes
 use mathlib.Core.Path.{_≡_}
 use mathlib.Core.Bool.{Bool, true, false, cond, _&&_, _||_}
@@ -77,3 +78,38 @@ end-at Escape = Err NotClosed
 end-at HighDigit = Err NotClosed
 end-at (LowDigit high) = Err NotClosed
 end-at Closed = Ok Pass
+
+-- a word as it was meant: whether it stood in quotes, and its bytes
+abbrev pub Text : Type 0
+Text = Bool × List ℕ
+
+abbrev pub spelled : Word → Text
+spelled w = (w .quoted, vec-items (w .bytes))
+
+abbrev pub in-hand : Deed → List ℕ → List ℕ
+in-hand Pass bs = bs
+in-hand (Take b) bs = bs ++ b ∷ []
+in-hand (End quoted) bs = []
+
+abbrev pub so-far : Deed → List ℕ → List Text → List Text
+so-far Pass bs ws = ws
+so-far (Take b) bs ws = ws
+so-far (End quoted) bs ws = ws ++ (quoted, bs) ∷ []
+
+abbrev pub Texts : Type 0
+Texts = Result (List Text) Flaw
+
+abbrev pub stepped : Step → (Place → Deed → Texts) → Texts
+stepped (Ok s) go = go (s .0) (s .1)
+stepped (Err e) go = Err e
+
+abbrev pub ended : Result Deed Flaw → List ℕ → List Text → Texts
+ended (Ok d) bs ws = Ok (so-far d bs ws)
+ended (Err e) bs ws = Err e
+
+unfoldable pub words-from : Place → List ℕ → List Text → List ℕ → Texts
+words-from p bs ws [] = ended (end-at p) bs ws
+words-from p bs ws (b ∷ line) = stepped (turn-at p b) (λ q d. words-from q (in-hand d bs) (so-far d bs ws) line)
+
+abbrev pub words-of : List ℕ → Texts
+words-of line = words-from Between [] [] line

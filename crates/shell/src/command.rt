@@ -1,4 +1,7 @@
 // What a line asks for, read from its words.
+ghost use mathlib.Core.Path.{_≡_};
+ghost use Rattle.shell.specs.Words.{spelled};
+ghost use Rattle.shell.specs.Commands.{longer, number-of, numeral-of, moment-of, part-of, Named};
 use crate::flaw::Flaw;
 use crate::flaw::FlawFromAlloc;
 use crate::flaw::FlawFromRefused;
@@ -46,36 +49,51 @@ pub enum Order<'a> {
     Quit,
 }
 
+// A number with one decimal digit more.
+fn with_digit(n: u64, b: u8) -> Option<u64>
+    ensures { λ r. ⌜ r ≡ longer n b ⌝ }
+{
+    if !b.is_ascii_digit() {
+        return None;
+    }
+    n.checked_mul(10)?.checked_add(u64::from(b - b'0'))
+}
+
 // The number that a row of decimal digits spells, if it is below 2^64.
-fn number(digits: &[u8]) -> Option<u64> {
+fn number(digits: &[u8]) -> Option<u64>
+    ensures { λ r. ⌜ r ≡ number-of (now (digits .entry)) ⌝ }
+{
     if digits.is_empty() {
         return None;
     }
     let mut n: u64 = 0;
     for b in digits {
-        if !b.is_ascii_digit() {
-            return None;
-        }
-        n = n.checked_mul(10)?.checked_add(u64::from(*b - b'0'))?;
+        n = with_digit(n, *b)?;
     }
     Some(n)
 }
 
-fn numeral(word: &Word) -> Option<u64> {
+fn numeral(word: &Word) -> Option<u64>
+    ensures { λ r. ⌜ r ≡ numeral-of (spelled (now (word .entry))) ⌝ }
+{
     if word.quoted {
         return None;
     }
     number(&word.bytes)
 }
 
-fn moment(word: &Word) -> Result<u64, Flaw> {
+fn moment(word: &Word) -> Result<u64, Flaw>
+    ensures { λ r. ⌜ r ≡ moment-of (spelled (now (word .entry))) ⌝ }
+{
     match numeral(word) {
         Some(n) => Ok(n),
         None => Err(Flaw::NoMoment),
     }
 }
 
-fn part_left(word: &Word) -> Result<Part, Flaw> {
+fn part_left(word: &Word) -> Result<Part, Flaw>
+    ensures { λ r. ⌜ r ≡ part-of (numeral-of (spelled (now (word .entry)))) ⌝ }
+{
     match numeral(word) {
         Some(0) => Ok(Part::Nothing),
         Some(1) => Ok(Part::All),
@@ -181,7 +199,9 @@ enum Name {
     Quit,
 }
 
-fn name_of(bytes: &[u8]) -> Option<Name> {
+fn name_of(bytes: &[u8]) -> Option<Name>
+    ensures { λ r. ⌜ Named (now (bytes .entry)) r ⌝ }
+{
     match bytes {
         b"write" => Some(Name::Write),
         b"erase" => Some(Name::Erase),

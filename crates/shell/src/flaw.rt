@@ -1,4 +1,6 @@
 // What can be wrong with a line, so that it is no command.
+ghost use mathlib.Core.Path.{_≡_};
+ghost use Rattle.shell.specs.declared.flaw.Flaw.the-variants.{NoMemory};
 use std::alloc::AllocError;
 use std::alloc::Refused;
 use std::fmt;
@@ -30,25 +32,31 @@ impl Flaw {
             Flaw::NoMoment => "a moment is a number from 0 to 18446744073709551615",
             Flaw::NoActs => "a number of acts is from 0 to 18446744073709551615",
             Flaw::NoPart => "what is left of a page is 0, 1 or 2",
-            Flaw::Form(form) => form,
+            Flaw::Form(form) => *form,
         }
     }
 }
 
 pub impl fmt::Display for Flaw as FlawDisplay {
     fn fmt<W: fmt::Write>(&self, f: &mut fmt::Formatter<W>) -> fmt::Result {
-        let text = self.text();
-        write!(f, "{text}")
+        match self {
+            Flaw::Form(form) => write!(f, "what is expected is: {form}"),
+            _ => f.write_str(self.text()),
+        }
     }
 }
 
 pub impl From<AllocError> for Flaw as FlawFromAlloc {
+    ghost converts = { λ _ r. r ≡ NoMemory };
+
     fn from(_: AllocError) -> Flaw {
         Flaw::NoMemory
     }
 }
 
 pub impl<T: Drop> From<Refused<T>> for Flaw as FlawFromRefused {
+    ghost converts = { λ _ r. r ≡ NoMemory };
+
     fn from(_: Refused<T>) -> Flaw {
         Flaw::NoMemory
     }

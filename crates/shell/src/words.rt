@@ -1,6 +1,12 @@
 // Splits a line into words: a word stands as it is, or in double quotes, where \" \\ \n \t and \xNN are escapes.
 ghost use mathlib.Core.Path.{_≡_};
-ghost use Rattle.shell.specs.Words.{blank, hex-value, escape-at, high-step, low-step, quoted-at, between-at, plain-at, closed-at, turn-at, end-at};
+ghost use mathlib.Core.List.{map};
+ghost use mathlib.Core.Logic.{_⊎_};
+ghost use Rattle.std.specs.Of.Vec.{vec-items};
+ghost use Rattle.std.specs.Results.{Cases};
+ghost use Rattle.std.specs.Vec.{made};
+ghost use Rattle.std.specs.declared.result.Result.the-variants.{Ok, Err};
+ghost use Rattle.shell.specs.Words.{blank, hex-value, escape-at, high-step, low-step, quoted-at, between-at, plain-at, closed-at, turn-at, end-at, in-hand, so-far, spelled, words-of};
 use crate::flaw::Flaw;
 use crate::flaw::FlawFromAlloc;
 use crate::flaw::FlawFromRefused;
@@ -162,7 +168,10 @@ fn at_end(place: Place) -> Result<Deed, Flaw>
     }
 }
 
-fn perform(heap: Global, deed: Deed, bytes: &mut Vec<u8>, words: &mut Vec<Word>) -> Result<(), AllocError> {
+fn perform(heap: Global, deed: Deed, bytes: &mut Vec<u8>, words: &mut Vec<Word>) -> Result<(), AllocError>
+    ensures hand { λ r. ⌜ made r (λ _. vec-items (now (bytes .exit)) ≡ in-hand deed (vec-items (now (bytes .entry)))) ⌝ }
+    ensures words { λ r. ⌜ made r (λ _. map spelled (vec-items (now (words .exit))) ≡ so-far deed (vec-items (now (bytes .entry))) (map spelled (vec-items (now (words .entry))))) ⌝ }
+{
     match deed {
         Deed::Pass => {}
         Deed::Take(b) => bytes.push(b)?,
@@ -174,7 +183,10 @@ fn perform(heap: Global, deed: Deed, bytes: &mut Vec<u8>, words: &mut Vec<Word>)
     Ok(())
 }
 
-pub fn split(heap: Global, line: &[u8]) -> Result<Vec<Word>, Flaw> {
+// The words of a line, or what is wrong with it.
+pub fn split(heap: Global, line: &[u8]) -> Result<Vec<Word>, Flaw>
+    ensures { λ r. ⌜ Cases r (λ ws. words-of (now (line .entry)) ≡ Ok (map spelled (vec-items ws))) (λ e. (e ≡ Flaw.NoMemory) ⊎ (words-of (now (line .entry)) ≡ Err e)) ⌝ }
+{
     let mut words = Vec::new(heap);
     let mut bytes = Vec::new(heap);
     let mut place = Place::Between;
