@@ -1,1 +1,3 @@
+pub mod CommandLaws
+pub mod NumberLaws
 pub mod WordsLaws

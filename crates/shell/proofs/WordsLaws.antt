@@ -24,7 +24,7 @@ module _ (p : Place) (bs : List ℕ) (ws : List Text) (line : List ℕ) (i : ℕ
   byte-flaw e h t = next-byte h ∙ rw t
 
   pub byte-goes : (q : Place) (d : Deed) → i < length line → turn-at p (getD line i 0) ≡ Ok (q, d) →
-    words-from p bs ws (drop i line) ≡ words-from q (in-hand d bs) (so-far d bs ws) (drop (i + 1) line)
+      words-from p bs ws (drop i line) ≡ words-from q (in-hand d bs) (so-far d bs ws) (drop (i + 1) line)
   byte-goes q d h t = next-byte h ∙ rw (t, add-one)
 
   pub end-flaw : (e : Flaw) → length line ≤ i → end-at p ≡ Err e → words-from p bs ws (drop i line) ≡ Err e

@@ -1,10 +1,14 @@
 // What a line asks for, read from its words.
 ghost use mathlib.Core.Path.{_≡_};
 ghost use Rattle.shell.specs.Words.{spelled};
-ghost use Rattle.shell.specs.Commands.{longer, number-of, numeral-of, moment-of, part-of, Named};
+ghost use Rattle.shell.specs.Commands.{longer, number-of, numeral-of, moment-of, part-of, plainly, end-of, meant-by, text-by, texts-by, triple-by, one-of, two-of, three-of, none-of, write-of, erase-of, get-of, range-of, only-moment};
+ghost use mathlib.Core.List.{map};
+ghost use Rattle.std.specs.Options.{mapped};
 use crate::flaw::Flaw;
 use crate::flaw::FlawFromAlloc;
 use crate::flaw::FlawFromRefused;
+use crate::name;
+use crate::name::Name;
 use crate::words::Word;
 use std::alloc::Global;
 
@@ -82,6 +86,13 @@ fn numeral(word: &Word) -> Option<u64>
     number(&word.bytes)
 }
 
+// Does a word stand without quotes, and spell this?
+fn is_plain(word: &Word, name: &[u8]) -> bool
+    ensures { λ r. ⌜ r ≡ plainly (spelled (now (word .entry))) (now (name .entry)) ⌝ }
+{
+    !word.quoted && name::is(word.bytes.as_slice(), name)
+}
+
 fn moment(word: &Word) -> Result<u64, Flaw>
     ensures { λ r. ⌜ r ≡ moment-of (spelled (now (word .entry))) ⌝ }
 {
@@ -102,57 +113,87 @@ fn part_left(word: &Word) -> Result<Part, Flaw>
     }
 }
 
-fn write<'a>(rest: &'a [Word]) -> Result<Command<'a>, Flaw> {
-    let [key, at, value] = rest else {
-        return Err(Flaw::Form("write KEY MOMENT VALUE"));
-    };
-    Ok(Command::Write(key.bytes.as_slice(), moment(at)?, value.bytes.as_slice()))
-}
-
-fn erase<'a>(rest: &'a [Word]) -> Result<Command<'a>, Flaw> {
-    let [key, at] = rest else {
-        return Err(Flaw::Form("erase KEY MOMENT"));
-    };
-    Ok(Command::Erase(key.bytes.as_slice(), moment(at)?))
-}
-
-fn get<'a>(rest: &'a [Word]) -> Result<Command<'a>, Flaw> {
-    let [key, at] = rest else {
-        return Err(Flaw::Form("get KEY MOMENT"));
-    };
-    Ok(Command::Get(key.bytes.as_slice(), moment(at)?))
-}
-
 // `none` without quotes is no end.
-fn end_of<'a>(word: &'a Word) -> Option<&'a [u8]> {
-    let bytes = word.bytes.as_slice();
-    if !word.quoted && bytes == b"none" {
+fn end_of<'a>(word: &'a Word) -> Option<&'a [u8]>
+    ensures { λ r. ⌜ mapped now r ≡ end-of (spelled (now (word .entry))) ⌝ }
+{
+    if is_plain(word, b"none") {
         None
     } else {
-        Some(bytes)
+        Some(word.bytes.as_slice())
     }
 }
 
-fn range<'a>(rest: &'a [Word]) -> Result<Command<'a>, Flaw> {
-    let [from, to, at] = rest else {
-        return Err(Flaw::Form("range FROM TO MOMENT"));
-    };
+// The one word behind a name.
+fn one<'a>(called: Name, rest: &'a [Word]) -> Result<&'a Word, Flaw>
+    ensures { λ r. ⌜ text-by r ≡ one-of called (map spelled (now (rest .entry))) ⌝ }
+{
+    match rest {
+        [a] => Ok(a),
+        _ => Err(Flaw::Form(called)),
+    }
+}
+
+fn two<'a>(called: Name, rest: &'a [Word]) -> Result<(&'a Word, &'a Word), Flaw>
+    ensures { λ r. ⌜ texts-by r ≡ two-of called (map spelled (now (rest .entry))) ⌝ }
+{
+    match rest {
+        [a, b] => Ok((a, b)),
+        _ => Err(Flaw::Form(called)),
+    }
+}
+
+fn three<'a>(called: Name, rest: &'a [Word]) -> Result<(&'a Word, &'a Word, &'a Word), Flaw>
+    ensures { λ r. ⌜ triple-by r ≡ three-of called (map spelled (now (rest .entry))) ⌝ }
+{
+    match rest {
+        [a, b, c] => Ok((a, b, c)),
+        _ => Err(Flaw::Form(called)),
+    }
+}
+
+fn write<'a>(rest: &'a [Word]) -> Result<Command<'a>, Flaw>
+    ensures { λ r. ⌜ meant-by r ≡ write-of (map spelled (now (rest .entry))) ⌝ }
+{
+    let (key, at, value) = three(Name::Write, rest)?;
+    Ok(Command::Write(key.bytes.as_slice(), moment(at)?, value.bytes.as_slice()))
+}
+
+fn erase<'a>(rest: &'a [Word]) -> Result<Command<'a>, Flaw>
+    ensures { λ r. ⌜ meant-by r ≡ erase-of (map spelled (now (rest .entry))) ⌝ }
+{
+    let (key, at) = two(Name::Erase, rest)?;
+    Ok(Command::Erase(key.bytes.as_slice(), moment(at)?))
+}
+
+fn get<'a>(rest: &'a [Word]) -> Result<Command<'a>, Flaw>
+    ensures { λ r. ⌜ meant-by r ≡ get-of (map spelled (now (rest .entry))) ⌝ }
+{
+    let (key, at) = two(Name::Get, rest)?;
+    Ok(Command::Get(key.bytes.as_slice(), moment(at)?))
+}
+
+fn range<'a>(rest: &'a [Word]) -> Result<Command<'a>, Flaw>
+    ensures { λ r. ⌜ meant-by r ≡ range-of (map spelled (now (rest .entry))) ⌝ }
+{
+    let (from, to, at) = three(Name::Range, rest)?;
     Ok(Command::Range(from.bytes.as_slice(), end_of(to), moment(at)?))
 }
 
-// The one moment that stands after a command's name.
-fn only_moment(rest: &[Word], form: &'static str) -> Result<u64, Flaw> {
-    let [at] = rest else {
-        return Err(Flaw::Form(form));
-    };
-    moment(at)
+// The one moment that stands behind a name.
+fn only_moment(called: Name, rest: &[Word]) -> Result<u64, Flaw>
+    ensures { λ r. ⌜ r ≡ only-moment called (map spelled (now (rest .entry))) ⌝ }
+{
+    moment(one(called, rest)?)
 }
 
-fn nothing_more(rest: &[Word], form: &'static str) -> Result<(), Flaw> {
+fn nothing_more(called: Name, rest: &[Word]) -> Result<(), Flaw>
+    ensures { λ r. ⌜ r ≡ none-of called (map spelled (now (rest .entry))) ⌝ }
+{
     if rest.is_empty() {
         Ok(())
     } else {
-        Err(Flaw::Form(form))
+        Err(Flaw::Form(called))
     }
 }
 
@@ -164,58 +205,17 @@ fn parts(heap: Global, rest: &[Word]) -> Result<Vec<Part>, Flaw> {
     Ok(left)
 }
 
-fn is_after(word: &Word) -> bool {
-    !word.quoted && word.bytes.as_slice() == b"after"
-}
-
 fn power<'a>(heap: Global, rest: &'a [Word]) -> Result<Order<'a>, Flaw> {
     match rest {
         [] => Ok(Order::Power),
-        [after, acts, left @ ..] if is_after(after) => {
+        [after, acts, left @ ..] if is_plain(after, b"after") => {
             let Some(acts) = numeral(acts) else {
                 return Err(Flaw::NoActs);
             };
             let left = parts(heap, left)?;
             Ok(Order::PowerAfter(Cut { acts, left }))
         }
-        _ => Err(Flaw::Form("power, or power after N [LEFT ..]")),
-    }
-}
-
-// Every first word of a line that is a command.
-#[derive(Clone, Copy)]
-enum Name {
-    Write,
-    Erase,
-    Get,
-    Range,
-    First,
-    Last,
-    Count,
-    Flush,
-    Compact,
-    Power,
-    Help,
-    Quit,
-}
-
-fn name_of(bytes: &[u8]) -> Option<Name>
-    ensures { λ r. ⌜ Named (now (bytes .entry)) r ⌝ }
-{
-    match bytes {
-        b"write" => Some(Name::Write),
-        b"erase" => Some(Name::Erase),
-        b"get" => Some(Name::Get),
-        b"range" => Some(Name::Range),
-        b"first" => Some(Name::First),
-        b"last" => Some(Name::Last),
-        b"count" => Some(Name::Count),
-        b"flush" => Some(Name::Flush),
-        b"compact" => Some(Name::Compact),
-        b"power" => Some(Name::Power),
-        b"help" => Some(Name::Help),
-        b"quit" => Some(Name::Quit),
-        _ => None,
+        _ => Err(Flaw::Form(Name::Power)),
     }
 }
 
@@ -226,12 +226,12 @@ fn said<'a>(called: Name, rest: &'a [Word]) -> Result<Command<'a>, Flaw> {
         Name::Erase => erase(rest),
         Name::Get => get(rest),
         Name::Range => range(rest),
-        Name::First => Ok(Command::First(only_moment(rest, "first MOMENT")?)),
-        Name::Last => Ok(Command::Last(only_moment(rest, "last MOMENT")?)),
-        Name::Count => Ok(Command::Count(only_moment(rest, "count MOMENT")?)),
-        Name::Compact => Ok(Command::Compact(only_moment(rest, "compact MOMENT")?)),
+        Name::First => Ok(Command::First(only_moment(called, rest)?)),
+        Name::Last => Ok(Command::Last(only_moment(called, rest)?)),
+        Name::Count => Ok(Command::Count(only_moment(called, rest)?)),
+        Name::Compact => Ok(Command::Compact(only_moment(called, rest)?)),
         _ => {
-            nothing_more(rest, "flush")?;
+            nothing_more(called, rest)?;
             Ok(Command::Flush)
         }
     }
@@ -241,11 +241,11 @@ fn asked<'a>(heap: Global, called: Name, rest: &'a [Word]) -> Result<Order<'a>, 
     match called {
         Name::Power => power(heap, rest),
         Name::Help => {
-            nothing_more(rest, "help")?;
+            nothing_more(called, rest)?;
             Ok(Order::Help)
         }
         Name::Quit => {
-            nothing_more(rest, "quit")?;
+            nothing_more(called, rest)?;
             Ok(Order::Quit)
         }
         _ => Ok(Order::Say(said(called, rest)?)),
@@ -259,7 +259,7 @@ pub fn parse<'a>(heap: Global, words: &'a [Word]) -> Result<Order<'a>, Flaw> {
     if first.quoted {
         return Err(Flaw::NoSuchCommand);
     }
-    match name_of(first.bytes.as_slice()) {
+    match name::name_of(first.bytes.as_slice()) {
         Some(called) => asked(heap, called, rest),
         None => Err(Flaw::NoSuchCommand),
     }

@@ -80,7 +80,11 @@ fn lengthen(rt: &LibcRuntime, path: &str, file: &File, pages: u64) -> Result<(),
 }
 
 fn open_file(rt: &LibcRuntime, path: &str) -> io::Result<File> {
-    OpenOptions::new().read(true).write(true).create(true).open(rt, path)
+    OpenOptions::new()
+        .read(true)
+        .write(true)
+        .create(true)
+        .open(rt, path)
 }
 
 // The file's length in bytes.
@@ -133,7 +137,12 @@ impl Device {
         };
         let queue = Vec::new(rt.alloc());
         let newest = BTreeMap::new(rt.alloc());
-        Ok(Device { file, pages, queue, newest })
+        Ok(Device {
+            file,
+            pages,
+            queue,
+            newest,
+        })
     }
 
     pub fn pages(&self) -> u64 {

@@ -1,6 +1,7 @@
 // What can be wrong with a line, so that it is no command.
 ghost use mathlib.Core.Path.{_≡_};
 ghost use Rattle.shell.specs.declared.flaw.Flaw.the-variants.{NoMemory};
+use crate::name::Name;
 use std::alloc::AllocError;
 use std::alloc::Refused;
 use std::fmt;
@@ -16,8 +17,8 @@ pub enum Flaw {
     NoMoment,
     NoActs,
     NoPart,
-    // What was expected.
-    Form(&'static str),
+    // The words behind this name are too few or too many.
+    Form(Name),
 }
 
 impl Flaw {
@@ -32,7 +33,7 @@ impl Flaw {
             Flaw::NoMoment => "a moment is a number from 0 to 18446744073709551615",
             Flaw::NoActs => "a number of acts is from 0 to 18446744073709551615",
             Flaw::NoPart => "what is left of a page is 0, 1 or 2",
-            Flaw::Form(form) => *form,
+            Flaw::Form(called) => called.form(),
         }
     }
 }
@@ -40,7 +41,10 @@ impl Flaw {
 pub impl fmt::Display for Flaw as FlawDisplay {
     fn fmt<W: fmt::Write>(&self, f: &mut fmt::Formatter<W>) -> fmt::Result {
         match self {
-            Flaw::Form(form) => write!(f, "what is expected is: {form}"),
+            Flaw::Form(_) => {
+                let form = self.text();
+                write!(f, "what is expected is: {form}")
+            }
             _ => f.write_str(self.text()),
         }
     }

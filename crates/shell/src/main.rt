@@ -3,6 +3,7 @@ mod answer;
 mod command;
 mod device;
 mod flaw;
+mod name;
 mod options;
 mod session;
 mod trouble;
@@ -15,7 +16,11 @@ use trouble::TroubleFromAlloc;
 use trouble::TroubleFromIo;
 
 // Does what an order asks for, and says whether more is to come.
-fn follow(rt: &LibcRuntime, session: &mut session::Session, order: command::Order<'_>) -> Result<bool, trouble::Trouble> {
+fn follow(
+    rt: &LibcRuntime,
+    session: &mut session::Session,
+    order: command::Order<'_>,
+) -> Result<bool, trouble::Trouble> {
     match order {
         command::Order::Pass => {}
         command::Order::Say(command) => session.say(rt, command)?,
@@ -28,7 +33,11 @@ fn follow(rt: &LibcRuntime, session: &mut session::Session, order: command::Orde
 }
 
 // Reads a line as an order and follows it, and says whether more is to come.
-fn take_line(rt: &LibcRuntime, session: &mut session::Session, line: &[u8]) -> Result<bool, trouble::Trouble> {
+fn take_line(
+    rt: &LibcRuntime,
+    session: &mut session::Session,
+    line: &[u8],
+) -> Result<bool, trouble::Trouble> {
     if words::is_comment(line) {
         return Ok(true);
     }

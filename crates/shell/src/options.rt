@@ -37,6 +37,10 @@ impl Options {
                 pages = pages_from(word.as_str())?;
             }
         }
-        Ok(Options { path, pages, with_acts })
+        Ok(Options {
+            path,
+            pages,
+            with_acts,
+        })
     }
 }

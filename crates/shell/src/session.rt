@@ -138,8 +138,16 @@ fn counts(event: Event<'_>) -> bool {
 }
 
 fn notes_for(event: Event<'_>) -> Notes {
-    let acts = Acts { read: 0, put: 0, settle: 0 };
-    Notes { counts: counts(event), rows: 0, acts }
+    let acts = Acts {
+        read: 0,
+        put: 0,
+        settle: 0,
+    };
+    Notes {
+        counts: counts(event),
+        rows: 0,
+        acts,
+    }
 }
 
 // How many versions are not safe after a command that is done, if it was `late` before.
@@ -159,7 +167,15 @@ impl Session {
         let memory = zeros(rt.alloc(), store::MEMORY)?;
         let out = zeros(rt.alloc(), ROW)?;
         let page = [0u8; PAGE];
-        let mut session = Session { memory, out, page, device, cut: None, late: 0, with_acts };
+        let mut session = Session {
+            memory,
+            out,
+            page,
+            device,
+            cut: None,
+            late: 0,
+            with_acts,
+        };
         session.wake(rt)?;
         Ok(session)
     }
@@ -230,10 +246,21 @@ impl Session {
     }
 
     // Runs until the end, or until so many acts were done.
-    fn run(&mut self, rt: &LibcRuntime, first: Event<'_>, acts: u64, notes: &mut Notes) -> Result<End, Trouble> {
+    fn run(
+        &mut self,
+        rt: &LibcRuntime,
+        first: Event<'_>,
+        acts: u64,
+        notes: &mut Notes,
+    ) -> Result<End, Trouble> {
         let mut event = first;
         for _ in 0..acts {
-            let told = tell(self.memory.as_mut_slice(), event, &self.page, self.out.as_mut_slice());
+            let told = tell(
+                self.memory.as_mut_slice(),
+                event,
+                &self.page,
+                self.out.as_mut_slice(),
+            );
             match self.obey(rt, told, notes)? {
                 Turn::Goes(reply) => event = Event::Back(reply),
                 Turn::Ends(end) => return Ok(end),
@@ -262,7 +289,12 @@ impl Session {
         Ok(())
     }
 
-    fn show_done(&mut self, rt: &LibcRuntime, command: Command<'_>, notes: &Notes) -> Result<(), Trouble> {
+    fn show_done(
+        &mut self,
+        rt: &LibcRuntime,
+        command: Command<'_>,
+        notes: &Notes,
+    ) -> Result<(), Trouble> {
         if shows(command) && notes.rows == 0 {
             println!(rt, "nothing")?;
         }
@@ -271,7 +303,13 @@ impl Session {
         Ok(())
     }
 
-    fn show_end(&mut self, rt: &LibcRuntime, command: Command<'_>, end: End, notes: &Notes) -> Result<(), Trouble> {
+    fn show_end(
+        &mut self,
+        rt: &LibcRuntime,
+        command: Command<'_>,
+        end: End,
+        notes: &Notes,
+    ) -> Result<(), Trouble> {
         match end {
             End::Done => self.show_done(rt, command, notes)?,
             End::Refused(k) => answer::show_refusal(rt, k)?,
@@ -283,7 +321,12 @@ impl Session {
         Ok(())
     }
 
-    fn say_within(&mut self, rt: &LibcRuntime, command: Command<'_>, acts: u64) -> Result<End, Trouble> {
+    fn say_within(
+        &mut self,
+        rt: &LibcRuntime,
+        command: Command<'_>,
+        acts: u64,
+    ) -> Result<End, Trouble> {
         let event = Event::Say(command);
         let mut notes = notes_for(event);
         let end = self.run(rt, event, acts, &mut notes)?;

@@ -23,9 +23,15 @@ pub enum Trouble {
 pub impl fmt::Display for Trouble as TroubleDisplay {
     fn fmt<W: fmt::Write>(&self, f: &mut fmt::Formatter<W>) -> fmt::Result {
         match self {
-            Trouble::Usage => write!(f, "usage: shell FILE [PAGES] [--acts], with 64 to 1048576 pages"),
+            Trouble::Usage => write!(
+                f,
+                "usage: shell FILE [PAGES] [--acts], with 64 to 1048576 pages"
+            ),
             Trouble::NoMemory => write!(f, "there is not enough memory"),
-            Trouble::Size(len) => write!(f, "the file has {len} bytes, not 64 to 1048576 pages of 512"),
+            Trouble::Size(len) => write!(
+                f,
+                "the file has {len} bytes, not 64 to 1048576 pages of 512"
+            ),
             Trouble::NoFile => write!(f, "that is no plain file"),
             Trouble::Open(e) => write!(f, "the file could not be opened: {e}"),
             Trouble::Read(e) => write!(f, "the file could not be read: {e}"),

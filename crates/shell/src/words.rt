@@ -168,7 +168,12 @@ fn at_end(place: Place) -> Result<Deed, Flaw>
     }
 }
 
-fn perform(heap: Global, deed: Deed, bytes: &mut Vec<u8>, words: &mut Vec<Word>) -> Result<(), AllocError>
+fn perform(
+    heap: Global,
+    deed: Deed,
+    bytes: &mut Vec<u8>,
+    words: &mut Vec<Word>,
+) -> Result<(), AllocError>
     ensures hand { λ r. ⌜ made r (λ _. vec-items (now (bytes .exit)) ≡ in-hand deed (vec-items (now (bytes .entry)))) ⌝ }
     ensures words { λ r. ⌜ made r (λ _. map spelled (vec-items (now (words .exit))) ≡ so-far deed (vec-items (now (bytes .entry))) (map spelled (vec-items (now (words .entry))))) ⌝ }
 {
