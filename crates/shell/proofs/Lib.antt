@@ -1,3 +1,4 @@
 pub mod CommandLaws
 pub mod NumberLaws
+pub mod OrderLaws
 pub mod WordsLaws

@@ -15,12 +15,10 @@ use Rattle.std.specs.declared.option.Option.the-variants.{Some, None}
 use Rattle.std.specs.declared.result.Result.{Result}
 use Rattle.std.specs.declared.result.Result.the-variants.{Ok, Err}
 use Rattle.shell.specs.declared.flaw.Flaw.{Flaw}
-use Rattle.shell.specs.declared.flaw.Flaw.the-variants.{NoMoment, NoPart, Form}
+use Rattle.shell.specs.declared.flaw.Flaw.the-variants.{NoMoment, Form}
 use Rattle.shell.specs.declared.command.Command.{Command}
 use Rattle.shell.specs.declared.command.Command.the-variants.{Write, Erase, Get, Range, First, Last, Count, Flush, Compact}
 use Rattle.shell.specs.declared.words.Word.{Word}
-use Rattle.shell.specs.declared.command.Part.{Part}
-use Rattle.shell.specs.declared.command.Part.the-variants.{Nothing, All, Half}
 use Rattle.shell.specs.declared.name.Name.{Name}
 use Rattle.shell.specs.declared.name.Name.the-variants as name
 use Rattle.shell.specs.Words.{Text, from-to, spelled}
@@ -53,13 +51,6 @@ or-flaw e None = Err e
 
 abbrev pub moment-of : Text → Result ℕ Flaw
 moment-of w = or-flaw NoMoment (numeral-of w)
-
-abbrev pub part-number : ℕ → Result Part Flaw
-part-number n = cond (eqb n 0) (Ok Nothing) (cond (eqb n 1) (Ok All) (cond (eqb n 2) (Ok Half) (Err NoPart)))
-
-abbrev pub part-of : Option ℕ → Result Part Flaw
-part-of (Some n) = part-number n
-part-of None = Err NoPart
 
 -- a word without quotes that spells this
 abbrev pub plainly : Text → List ℕ → Bool
@@ -162,6 +153,25 @@ moment-by (Err e) = Err e
 
 abbrev pub only-moment : Name → List Text → Result ℕ Flaw
 only-moment n ws = moment-by (one-of n ws)
+
+abbrev pub first-of : List Text → Said
+first-of ws = at-moment (only-moment name.First ws) (λ m. house.first-key m)
+
+abbrev pub last-of : List Text → Said
+last-of ws = at-moment (only-moment name.Last ws) (λ m. house.last-key m)
+
+abbrev pub count-of : List Text → Said
+count-of ws = at-moment (only-moment name.Count ws) (λ m. house.count m)
+
+abbrev pub compact-of : List Text → Said
+compact-of ws = at-moment (only-moment name.Compact ws) (λ m. house.compact m)
+
+abbrev pub flush-by : Result (Unit {0}) Flaw → Said
+flush-by (Ok u) = Ok house.flush
+flush-by (Err e) = Err e
+
+abbrev pub flush-of : List Text → Said
+flush-of ws = flush-by (none-of name.Flush ws)
 
 -- which command a word names
 abbrev pub name-of : List ℕ → Option Name

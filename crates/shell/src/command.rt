@@ -1,16 +1,13 @@
-// What a line asks for, read from its words.
+// What can be said to the store, read from the words behind a command's name.
 ghost use mathlib.Core.Path.{_≡_};
 ghost use Rattle.shell.specs.Words.{spelled};
-ghost use Rattle.shell.specs.Commands.{longer, number-of, numeral-of, moment-of, part-of, plainly, end-of, meant-by, text-by, texts-by, triple-by, one-of, two-of, three-of, none-of, write-of, erase-of, get-of, range-of, only-moment};
+ghost use Rattle.shell.specs.Commands.{longer, number-of, numeral-of, moment-of, plainly, end-of, meant-by, text-by, texts-by, triple-by, one-of, two-of, three-of, none-of, write-of, erase-of, get-of, range-of, first-of, last-of, count-of, flush-of, compact-of, only-moment};
 ghost use mathlib.Core.List.{map};
 ghost use Rattle.std.specs.Options.{mapped};
 use crate::flaw::Flaw;
-use crate::flaw::FlawFromAlloc;
-use crate::flaw::FlawFromRefused;
 use crate::name;
 use crate::name::Name;
 use crate::words::Word;
-use std::alloc::Global;
 
 // What is said to the store.
 #[derive(Clone, Copy)]
@@ -25,32 +22,6 @@ pub enum Command<'a> {
     Count(u64),
     Flush,
     Compact(u64),
-}
-
-// How much of a waiting page a stop leaves.
-#[derive(Clone, Copy)]
-pub enum Part {
-    Nothing,
-    All,
-    Half,
-}
-
-// Power goes after so many acts, and this much is left of each page that waits then.
-#[derive(Drop)]
-pub struct Cut {
-    pub acts: u64,
-    pub left: Vec<Part>,
-}
-
-#[derive(Drop)]
-pub enum Order<'a> {
-    // An empty line, or a comment.
-    Pass,
-    Say(Command<'a>),
-    Power,
-    PowerAfter(Cut),
-    Help,
-    Quit,
 }
 
 // A number with one decimal digit more.
@@ -77,7 +48,7 @@ fn number(digits: &[u8]) -> Option<u64>
     Some(n)
 }
 
-fn numeral(word: &Word) -> Option<u64>
+pub fn numeral(word: &Word) -> Option<u64>
     ensures { λ r. ⌜ r ≡ numeral-of (spelled (now (word .entry))) ⌝ }
 {
     if word.quoted {
@@ -87,7 +58,7 @@ fn numeral(word: &Word) -> Option<u64>
 }
 
 // Does a word stand without quotes, and spell this?
-fn is_plain(word: &Word, name: &[u8]) -> bool
+pub fn is_plain(word: &Word, name: &[u8]) -> bool
     ensures { λ r. ⌜ r ≡ plainly (spelled (now (word .entry))) (now (name .entry)) ⌝ }
 {
     !word.quoted && name::is(word.bytes.as_slice(), name)
@@ -99,17 +70,6 @@ fn moment(word: &Word) -> Result<u64, Flaw>
     match numeral(word) {
         Some(n) => Ok(n),
         None => Err(Flaw::NoMoment),
-    }
-}
-
-fn part_left(word: &Word) -> Result<Part, Flaw>
-    ensures { λ r. ⌜ r ≡ part-of (numeral-of (spelled (now (word .entry)))) ⌝ }
-{
-    match numeral(word) {
-        Some(0) => Ok(Part::Nothing),
-        Some(1) => Ok(Part::All),
-        Some(2) => Ok(Part::Half),
-        _ => Err(Flaw::NoPart),
     }
 }
 
@@ -152,28 +112,28 @@ fn three<'a>(called: Name, rest: &'a [Word]) -> Result<(&'a Word, &'a Word, &'a 
     }
 }
 
-fn write<'a>(rest: &'a [Word]) -> Result<Command<'a>, Flaw>
+pub fn write<'a>(rest: &'a [Word]) -> Result<Command<'a>, Flaw>
     ensures { λ r. ⌜ meant-by r ≡ write-of (map spelled (now (rest .entry))) ⌝ }
 {
     let (key, at, value) = three(Name::Write, rest)?;
     Ok(Command::Write(key.bytes.as_slice(), moment(at)?, value.bytes.as_slice()))
 }
 
-fn erase<'a>(rest: &'a [Word]) -> Result<Command<'a>, Flaw>
+pub fn erase<'a>(rest: &'a [Word]) -> Result<Command<'a>, Flaw>
     ensures { λ r. ⌜ meant-by r ≡ erase-of (map spelled (now (rest .entry))) ⌝ }
 {
     let (key, at) = two(Name::Erase, rest)?;
     Ok(Command::Erase(key.bytes.as_slice(), moment(at)?))
 }
 
-fn get<'a>(rest: &'a [Word]) -> Result<Command<'a>, Flaw>
+pub fn get<'a>(rest: &'a [Word]) -> Result<Command<'a>, Flaw>
     ensures { λ r. ⌜ meant-by r ≡ get-of (map spelled (now (rest .entry))) ⌝ }
 {
     let (key, at) = two(Name::Get, rest)?;
     Ok(Command::Get(key.bytes.as_slice(), moment(at)?))
 }
 
-fn range<'a>(rest: &'a [Word]) -> Result<Command<'a>, Flaw>
+pub fn range<'a>(rest: &'a [Word]) -> Result<Command<'a>, Flaw>
     ensures { λ r. ⌜ meant-by r ≡ range-of (map spelled (now (rest .entry))) ⌝ }
 {
     let (from, to, at) = three(Name::Range, rest)?;
@@ -187,7 +147,7 @@ fn only_moment(called: Name, rest: &[Word]) -> Result<u64, Flaw>
     moment(one(called, rest)?)
 }
 
-fn nothing_more(called: Name, rest: &[Word]) -> Result<(), Flaw>
+pub fn nothing_more(called: Name, rest: &[Word]) -> Result<(), Flaw>
     ensures { λ r. ⌜ r ≡ none-of called (map spelled (now (rest .entry))) ⌝ }
 {
     if rest.is_empty() {
@@ -197,70 +157,33 @@ fn nothing_more(called: Name, rest: &[Word]) -> Result<(), Flaw>
     }
 }
 
-fn parts(heap: Global, rest: &[Word]) -> Result<Vec<Part>, Flaw> {
-    let mut left = Vec::new(heap);
-    for word in rest {
-        left.push(part_left(word)?)?;
-    }
-    Ok(left)
+pub fn first<'a>(rest: &'a [Word]) -> Result<Command<'a>, Flaw>
+    ensures { λ r. ⌜ meant-by r ≡ first-of (map spelled (now (rest .entry))) ⌝ }
+{
+    Ok(Command::First(only_moment(Name::First, rest)?))
 }
 
-fn power<'a>(heap: Global, rest: &'a [Word]) -> Result<Order<'a>, Flaw> {
-    match rest {
-        [] => Ok(Order::Power),
-        [after, acts, left @ ..] if is_plain(after, b"after") => {
-            let Some(acts) = numeral(acts) else {
-                return Err(Flaw::NoActs);
-            };
-            let left = parts(heap, left)?;
-            Ok(Order::PowerAfter(Cut { acts, left }))
-        }
-        _ => Err(Flaw::Form(Name::Power)),
-    }
+pub fn last<'a>(rest: &'a [Word]) -> Result<Command<'a>, Flaw>
+    ensures { λ r. ⌜ meant-by r ≡ last-of (map spelled (now (rest .entry))) ⌝ }
+{
+    Ok(Command::Last(only_moment(Name::Last, rest)?))
 }
 
-// What is said to the store under a name.
-fn said<'a>(called: Name, rest: &'a [Word]) -> Result<Command<'a>, Flaw> {
-    match called {
-        Name::Write => write(rest),
-        Name::Erase => erase(rest),
-        Name::Get => get(rest),
-        Name::Range => range(rest),
-        Name::First => Ok(Command::First(only_moment(called, rest)?)),
-        Name::Last => Ok(Command::Last(only_moment(called, rest)?)),
-        Name::Count => Ok(Command::Count(only_moment(called, rest)?)),
-        Name::Compact => Ok(Command::Compact(only_moment(called, rest)?)),
-        _ => {
-            nothing_more(called, rest)?;
-            Ok(Command::Flush)
-        }
-    }
+pub fn count<'a>(rest: &'a [Word]) -> Result<Command<'a>, Flaw>
+    ensures { λ r. ⌜ meant-by r ≡ count-of (map spelled (now (rest .entry))) ⌝ }
+{
+    Ok(Command::Count(only_moment(Name::Count, rest)?))
 }
 
-fn asked<'a>(heap: Global, called: Name, rest: &'a [Word]) -> Result<Order<'a>, Flaw> {
-    match called {
-        Name::Power => power(heap, rest),
-        Name::Help => {
-            nothing_more(called, rest)?;
-            Ok(Order::Help)
-        }
-        Name::Quit => {
-            nothing_more(called, rest)?;
-            Ok(Order::Quit)
-        }
-        _ => Ok(Order::Say(said(called, rest)?)),
-    }
+pub fn compact<'a>(rest: &'a [Word]) -> Result<Command<'a>, Flaw>
+    ensures { λ r. ⌜ meant-by r ≡ compact-of (map spelled (now (rest .entry))) ⌝ }
+{
+    Ok(Command::Compact(only_moment(Name::Compact, rest)?))
 }
 
-pub fn parse<'a>(heap: Global, words: &'a [Word]) -> Result<Order<'a>, Flaw> {
-    let [first, rest @ ..] = words else {
-        return Ok(Order::Pass);
-    };
-    if first.quoted {
-        return Err(Flaw::NoSuchCommand);
-    }
-    match name::name_of(first.bytes.as_slice()) {
-        Some(called) => asked(heap, called, rest),
-        None => Err(Flaw::NoSuchCommand),
-    }
+pub fn flush<'a>(rest: &'a [Word]) -> Result<Command<'a>, Flaw>
+    ensures { λ r. ⌜ meant-by r ≡ flush-of (map spelled (now (rest .entry))) ⌝ }
+{
+    nothing_more(Name::Flush, rest)?;
+    Ok(Command::Flush)
 }

@@ -1,5 +1,5 @@
 // A file of pages. A page that is put waits in memory until all that wait are settled, or until power goes.
-use crate::command::Part;
+use crate::order::Part;
 use crate::trouble::Trouble;
 use crate::trouble::TroubleFromAlloc;
 use crate::trouble::TroubleFromRefused;

@@ -5,6 +5,7 @@ mod device;
 mod flaw;
 mod name;
 mod options;
+mod order;
 mod session;
 mod trouble;
 mod words;
@@ -19,15 +20,15 @@ use trouble::TroubleFromIo;
 fn follow(
     rt: &LibcRuntime,
     session: &mut session::Session,
-    order: command::Order<'_>,
+    asked: order::Order<'_>,
 ) -> Result<bool, trouble::Trouble> {
-    match order {
-        command::Order::Pass => {}
-        command::Order::Say(command) => session.say(rt, command)?,
-        command::Order::Power => session.power(rt, &[])?,
-        command::Order::PowerAfter(cut) => session.plan(cut),
-        command::Order::Help => answer::show_help(rt)?,
-        command::Order::Quit => return Ok(false),
+    match asked {
+        order::Order::Pass => {}
+        order::Order::Say(said) => session.say(rt, said)?,
+        order::Order::Power => session.power(rt, &[])?,
+        order::Order::PowerAfter(cut) => session.plan(cut),
+        order::Order::Help => answer::show_help(rt)?,
+        order::Order::Quit => return Ok(false),
     }
     Ok(true)
 }
@@ -48,8 +49,8 @@ fn take_line(
             return Ok(true);
         }
     };
-    match command::parse(rt.alloc(), words.as_slice()) {
-        Ok(order) => follow(rt, session, order),
+    match order::parse(rt.alloc(), words.as_slice()) {
+        Ok(asked) => follow(rt, session, asked),
         Err(flaw) => {
             answer::show_flaw(rt, flaw)?;
             Ok(true)

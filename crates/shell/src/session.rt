@@ -2,10 +2,10 @@
 use crate::answer;
 use crate::answer::Acts;
 use crate::command::Command;
-use crate::command::Cut;
-use crate::command::Part;
 use crate::device::Device;
 use crate::device::PAGE;
+use crate::order::Cut;
+use crate::order::Part;
 use crate::trouble::Trouble;
 use crate::trouble::TroubleFromAlloc;
 use crate::trouble::TroubleFromIo;
