@@ -10,6 +10,9 @@ mod session;
 mod trouble;
 mod words;
 
+use std::fs::File;
+use std::fs::OpenOptions;
+use std::io;
 use std::io::BufRead;
 use std::io::BufReader;
 use trouble::TroubleDisplay;
@@ -80,13 +83,12 @@ fn talk(rt: &LibcRuntime, session: &mut session::Session) -> Result<(), trouble:
     Ok(())
 }
 
-fn say_late(rt: &LibcRuntime, late: u64) -> Result<(), trouble::Trouble> {
+fn say_late(rt: &LibcRuntime, late: u64) -> io::Result<()> {
     match late {
-        0 => {}
-        1 => eprintln!(rt, "1 version was not made safe")?,
-        _ => eprintln!(rt, "{late} versions were not made safe")?,
+        0 => Ok(()),
+        1 => eprintln!(rt, "1 version was not made safe"),
+        _ => eprintln!(rt, "{late} versions were not made safe"),
     }
-    Ok(())
 }
 
 fn work(rt: &LibcRuntime) -> Result<(), trouble::Trouble> {
@@ -94,10 +96,20 @@ fn work(rt: &LibcRuntime) -> Result<(), trouble::Trouble> {
     let device = device::Device::open(rt, options.path.as_str(), options.pages)?;
     let mut session = session::Session::open(rt, device, options.with_acts)?;
     talk(rt, &mut session)?;
-    say_late(rt, session.late())
+    let _ = say_late(rt, session.late());
+    Ok(())
+}
+
+fn null(rt: &LibcRuntime) -> io::Result<File> {
+    OpenOptions::new()
+        .read(true)
+        .write(true)
+        .open(rt, "/dev/null")
 }
 
 fn main(rt: LibcRuntime) -> Result<(), trouble::Trouble> {
+    // Where standard input, output or error is closed, a file that is opened takes its place: let that be none with pages.
+    let _places = (null(&rt), null(&rt), null(&rt));
     let result = work(&rt);
     if let Err(trouble) = &result {
         let _ = eprintln!(rt, "shell: {trouble}");

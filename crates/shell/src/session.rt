@@ -1,4 +1,5 @@
 // Runs commands: the machine is told an event, does one act, and is told what came of it, until the command has ended or power goes.
+ghost use Rattle.shell.specs.Events.{Says, Tells};
 use crate::answer;
 use crate::answer::Acts;
 use crate::command::Command;
@@ -70,7 +71,10 @@ pub struct Session {
     with_acts: bool,
 }
 
-fn say(memory: &mut [u64], command: Command<'_>, out: &mut [u64]) -> Told {
+// Says a command to the machine, by the number of its event.
+fn say(memory: &mut [u64], command: Command<'_>, out: &mut [u64]) -> Told
+    ensures { λ r. ⌜ Says (now (memory .entry)) (command .entry) (now (out .entry)) r (now (memory .exit)) (now (out .exit)) ⌝ }
+{
     match command {
         Command::Write(key, moment, value) => store::step(memory, 1, moment, key, value, out),
         Command::Erase(key, moment) => store::step(memory, 2, moment, key, &[], out),
@@ -85,7 +89,10 @@ fn say(memory: &mut [u64], command: Command<'_>, out: &mut [u64]) -> Told {
     }
 }
 
-fn tell(memory: &mut [u64], event: Event<'_>, page: &[u8], out: &mut [u64]) -> Told {
+// Tells the machine an event; `page` is what was read last.
+fn tell(memory: &mut [u64], event: Event<'_>, page: &[u8], out: &mut [u64]) -> Told
+    ensures { λ r. ⌜ Tells (now (memory .entry)) (event .entry) (now (page .entry)) (now (out .entry)) r (now (memory .exit)) (now (out .exit)) ⌝ }
+{
     match event {
         Event::On(pages) => store::step(memory, 0, pages, &[], &[], out),
         Event::Say(command) => say(memory, command, out),
