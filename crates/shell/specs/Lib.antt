@@ -1,0 +1,4 @@
+pub mod Commands
+pub mod Events
+pub mod Orders
+pub mod Words
