@@ -51,23 +51,23 @@ abbrev pub newest-cases : List Case
 newest-cases =
     -- mvcc_queue_reverse_almost_gone
     case (put "a" 999 "a" ∷ cut "b" 999 ∷ put "b" 998 "b" ∷ cut "c" 999 ∷ put "c" 998 "c" ∷ cut "d" 999 ∷ put "d" 998 "d" ∷ cut "e" 999 ∷ put "e" 998 "e" ∷ []) 1000
-        (put "a" 999 "a" ∷ cut "b" 999 ∷ cut "c" 999 ∷ cut "d" 999 ∷ cut "e" 999 ∷ [])
+    (put "a" 999 "a" ∷ cut "b" 999 ∷ cut "c" 999 ∷ cut "d" 999 ∷ cut "e" 999 ∷ [])
     -- mvcc_queue_almost_gone_2
     ∷ case (put "a" 999 "a" ∷ cut "b" 999 ∷ cut "c" 999 ∷ cut "d" 999 ∷ cut "e" 999 ∷ []) 1000
-        (put "a" 999 "a" ∷ cut "b" 999 ∷ cut "c" 999 ∷ cut "d" 999 ∷ cut "e" 999 ∷ [])
+    (put "a" 999 "a" ∷ cut "b" 999 ∷ cut "c" 999 ∷ cut "d" 999 ∷ cut "e" 999 ∷ [])
     -- mvcc_queue
     ∷ case (put "a" 999 "a" ∷ put "b" 999 "b" ∷ put "c" 999 "c" ∷ put "d" 999 "d" ∷ cut "e" 999 ∷ put "e" 998 "e" ∷ []) 1000
-        (put "a" 999 "a" ∷ put "b" 999 "b" ∷ put "c" 999 "c" ∷ put "d" 999 "d" ∷ cut "e" 999 ∷ [])
+    (put "a" 999 "a" ∷ put "b" 999 "b" ∷ put "c" 999 "c" ∷ put "d" 999 "d" ∷ cut "e" 999 ∷ [])
     -- mvcc_stream_simple
     ∷ case (put "a" 999 "new" ∷ put "a" 998 "old" ∷ []) 1000 (put "a" 999 "new" ∷ [])
     -- mvcc_stream_simple_multi_keys
     ∷ case (put "a" 999 "new" ∷ put "a" 998 "old" ∷ put "b" 999 "new" ∷ put "b" 998 "old" ∷ put "c" 999 "newnew" ∷ put "c" 998 "new" ∷ put "c" 997 "old" ∷ []) 1000
-        (put "a" 999 "new" ∷ put "b" 999 "new" ∷ put "c" 999 "newnew" ∷ [])
+    (put "a" 999 "new" ∷ put "b" 999 "new" ∷ put "c" 999 "newnew" ∷ [])
     -- mvcc_tombstone
     ∷ case (cut "a" 999 ∷ put "a" 998 "old" ∷ []) 1000 (cut "a" 999 ∷ [])
     -- mvcc_tombstone_multi_keys
     ∷ case (cut "a" 999 ∷ put "a" 998 "old" ∷ cut "b" 999 ∷ put "b" 998 "old" ∷ cut "c" 999 ∷ cut "c" 998 ∷ put "c" 997 "old" ∷ []) 1000
-        (cut "a" 999 ∷ cut "b" 999 ∷ cut "c" 999 ∷ [])
+    (cut "a" 999 ∷ cut "b" 999 ∷ cut "c" 999 ∷ [])
     ∷ []
 
 -- compaction/stream.rs: what a compaction keeps, where the definitions keep the same
@@ -77,12 +77,12 @@ kept-cases =
     case (put "a" 999 "new" ∷ put "a" 998 "old" ∷ []) 0 (put "a" 999 "new" ∷ put "a" 998 "old" ∷ [])
     -- compaction_stream_no_gc_multi
     ∷ case (put "a" 999 "new" ∷ put "a" 998 "old" ∷ put "b" 999 "new" ∷ put "b" 998 "old" ∷ put "c" 999 "newnew" ∷ put "c" 998 "new" ∷ put "c" 997 "old" ∷ []) 0
-        (put "a" 999 "new" ∷ put "a" 998 "old" ∷ put "b" 999 "new" ∷ put "b" 998 "old" ∷ put "c" 999 "newnew" ∷ put "c" 998 "new" ∷ put "c" 997 "old" ∷ [])
+    (put "a" 999 "new" ∷ put "a" 998 "old" ∷ put "b" 999 "new" ∷ put "b" 998 "old" ∷ put "c" 999 "newnew" ∷ put "c" 998 "new" ∷ put "c" 997 "old" ∷ [])
     -- compaction_stream_evict_tombstones
     ∷ case (cut "a" 999 ∷ cut "b" 999 ∷ cut "c" 999 ∷ []) 1000 []
     -- compaction_stream_old_tombstone
     ∷ case (cut "a" 999 ∷ cut "a" 998 ∷ cut "b" 999 ∷ cut "b" 998 ∷ cut "c" 999 ∷ cut "c" 998 ∷ []) 998
-        (cut "a" 999 ∷ cut "a" 998 ∷ cut "b" 999 ∷ cut "b" 998 ∷ cut "c" 999 ∷ cut "c" 998 ∷ [])
+    (cut "a" 999 ∷ cut "a" 998 ∷ cut "b" 999 ∷ cut "b" 998 ∷ cut "c" 999 ∷ cut "c" 998 ∷ [])
     ∷ []
 
 -- a case that differs on purpose: `ours` is the definitions' answer, `theirs` upstream's
@@ -101,11 +101,11 @@ differing-cases =
     differing (put "a" 999 "new" ∷ put "a" 998 "old" ∷ []) 999 (put "a" 999 "new" ∷ put "a" 998 "old" ∷ []) (put "a" 999 "new" ∷ [])
     -- compaction_stream_gc_multi: the same
     ∷ differing (put "a" 999 "new" ∷ put "a" 998 "old" ∷ put "b" 999 "new" ∷ put "b" 998 "old" ∷ put "c" 999 "newnew" ∷ put "c" 998 "new" ∷ put "c" 997 "old" ∷ []) 999
-        (put "a" 999 "new" ∷ put "a" 998 "old" ∷ put "b" 999 "new" ∷ put "b" 998 "old" ∷ put "c" 999 "newnew" ∷ put "c" 998 "new" ∷ [])
-        (put "a" 999 "new" ∷ put "b" 999 "new" ∷ put "c" 999 "newnew" ∷ [])
+    (put "a" 999 "new" ∷ put "a" 998 "old" ∷ put "b" 999 "new" ∷ put "b" 998 "old" ∷ put "c" 999 "newnew" ∷ put "c" 998 "new" ∷ [])
+    (put "a" 999 "new" ∷ put "b" 999 "new" ∷ put "c" 999 "newnew" ∷ [])
     -- compaction_stream_queue_tombstones: an erasure that decides nothing any more is forgotten
     ∷ differing (put "a" 999 "a" ∷ cut "b" 999 ∷ put "b" 998 "b" ∷ cut "c" 999 ∷ put "c" 998 "c" ∷ cut "d" 999 ∷ put "d" 998 "d" ∷ cut "e" 999 ∷ put "e" 998 "e" ∷ []) 1000000
-        (put "a" 999 "a" ∷ []) (put "a" 999 "a" ∷ cut "b" 999 ∷ cut "c" 999 ∷ cut "d" 999 ∷ cut "e" 999 ∷ [])
+    (put "a" 999 "a" ∷ []) (put "a" 999 "a" ∷ cut "b" 999 ∷ cut "c" 999 ∷ cut "d" 999 ∷ cut "e" 999 ∷ [])
     -- compaction_stream_expired_callback_1: the same
     ∷ differing (cut "a" 999 ∷ cut "a" 998 ∷ cut "a" 997 ∷ []) 1000 [] (cut "a" 999 ∷ [])
     -- compaction_stream_tombstone_no_gc: the same
