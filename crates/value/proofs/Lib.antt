@@ -8,3 +8,6 @@ pub mod MergeLaws
 pub mod ForgettingLaws
 pub mod VisibleLaws
 pub mod OrderLaws
+pub mod NumberLaws
+pub mod EncodingLaws
+pub mod ListLaws

@@ -1,4 +1,4 @@
--- The library's order of byte rows is the order of keys.
+-- The library's order of byte rows is the order of keys; and versions in the order of a table.
 use mathlib.Core.Path.{_≡_, refl, sym}
 use mathlib.Core.List.{List}
 use Prim.Native.Nat.{ℕ, _<_}

@@ -4,3 +4,5 @@ pub mod Answers
 pub mod Sorted
 pub mod Order
 pub mod Count
+pub mod Numbers
+pub mod Encoding

@@ -1,6 +1,8 @@
 // The laws of versions, each a function whose contract is the law.
 ghost use Rattle.value.specs.Answers.{Not-missed, Twice-once, Range-right, Later-first, Write-seen};
 ghost use Rattle.value.specs.Sorted.{Sort-orders, Sort-weighs, Lookup-right, Merge-right, Push-right, Forget-right, Visible-right};
+ghost use Rattle.value.specs.Numbers.{Number-round-trips};
+ghost use Rattle.value.specs.Encoding.{Parse-reads-encode, Lists-read-back};
 
 // What is forgotten is not missed, from the moment on.
 pub fn not_missed()
@@ -60,4 +62,19 @@ pub fn stream_forgets()
 // A walk over the sorted view shows exactly what is seen, and a range of it.
 pub fn stream_shows()
     ensures { λ _. ⌜ Visible-right ⌝ }
+{}
+
+// A number that is written reads back, and bytes that are read write back.
+pub fn numbers_read_back()
+    ensures { λ _. ⌜ Number-round-trips ⌝ }
+{}
+
+// What was encoded is parsed, whatever stands before and behind it, and there the version lies.
+pub fn parse_reads_encode()
+    ensures { λ _. ⌜ Parse-reads-encode ⌝ }
+{}
+
+// Encoded lists read back, with zeros behind them or other bytes.
+pub fn lists_read_back()
+    ensures { λ _. ⌜ Lists-read-back ⌝ }
 {}
