@@ -162,17 +162,19 @@ pub encoding-weighs : (v : Version) → length (encoding v) + 49 ≡ weight (v �
 unfolding added-up
 encoding-weighs v = omega (arith, length-encoding v)
 
+all-bytes-head : (k m : ℕ) (g : Bool) (n : ℕ) → k < 256 → all-bytes (head k m g n) ≡ true
+unfolding head every
+all-bytes-head k m g n h =
+    and-from _ _ (lt-ltb k 256 h)
+    (every-append is-byte (bytes-of 8 m) _ (all-bytes-of 8 m) (every-append is-byte (bytes-of 2 (mark g n)) _ (all-bytes-of 2 (mark g n)) refl))
+
 pub all-bytes-encoding : (v : Version) → fits v ≡ true → all-bytes (encoding v) ≡ true
-unfolding head encoding every
+unfolding encoding
 all-bytes-encoding v h =
-    let k : List ℕ = v .key in
     let w = limits-parts _ _ _ _ (and-left-of (in-limits v) _ h) in
     let b = and-right-of (in-limits v) _ h in
-    let m = mark (v .gone) (length (v .value)) in
-    and-from _ _ (lt-ltb (length k) 256 (w .short))
-    (rw append-assoc (every-append is-byte (bytes-of 8 (v .moment)) _ (all-bytes-of 8 (v .moment))
-    (rw append-assoc (every-append is-byte (bytes-of 2 m) _ (all-bytes-of 2 m)
-    (every-append is-byte k (v .value) (and-left-of (all-bytes k) _ b) (and-right-of (all-bytes k) _ b))))))
+    every-append is-byte (head _ _ _ _) (v .key ++ v .value) (all-bytes-head _ _ _ _ (w .short))
+    (every-append is-byte (v .key) (v .value) (and-left-of (all-bytes (v .key)) _ b) (and-right-of (all-bytes (v .key)) _ b))
 
 -- a row in which nothing stands at a place, and one in which a version does
 pub none-stands : (row from : List ℕ) (at : ℕ) → from ≡ drop at row → (Stands from → ⊥) → None ≡ parsed row at
@@ -241,8 +243,7 @@ parse-reads-encode xs v ys e =
     let d : drop at row ≡ encoding v ++ ys = drop-at xs (encoding v ++ ys) _ refl in
     let s = says v ys e in
     let p : place-in (encoding v ++ ys) at ≡ place-of at v =
-    (λ i. record { «key_at» = at + 15; «key_len» = s .key-long i; «value_at» = at + 15 + s .key-long i; «value_len» = s .value-long i; moment = s .moment i; gone = s .gone i }) in
-    (
+    (λ i. record { «key_at» = at + 15; «key_len» = s .key-long i; «value_at» = at + 15 + s .key-long i; «value_len» = s .value-long i; moment = s .moment i; gone = s .gone i }) in (
       rw (d, stands-true _ (s .stand)) (ap Some p),
       ap (version-at row) (sym (ap (λ l. place-in l at) d ∙ p)) ∙ version-there row at ∙ ap version-in d ∙ s .is,
     )

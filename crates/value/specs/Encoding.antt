@@ -98,7 +98,7 @@ place-in bs at = record {
   «value_at» = at + 15 + key-length bs;
   «value_len» = value-length bs;
   moment = moment-in bs;
-  gone = gone-in bs
+  gone = gone-in bs;
 }
 
 unfoldable pub parsed : List ℕ → ℕ → Option Place
@@ -124,7 +124,7 @@ place-of at v = record {
   «value_at» = at + 15 + length (v .key);
   «value_len» = length (v .value);
   moment = v .moment;
-  gone = v .gone
+  gone = v .gone;
 }
 
 -- what holds of every place that is found

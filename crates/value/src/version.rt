@@ -123,13 +123,7 @@ fn head_of(key_len: usize, moment: u64, gone: bool, value_len: usize) -> [u8; 15
 }
 
 // Writes a version at the front of `out`, and says how many bytes it took; outside the limits, or without room, nothing.
-pub fn encode(
-    key: &[u8],
-    moment: u64,
-    gone: bool,
-    value: &[u8],
-    out: &mut [u8],
-) -> Option<usize>
+pub fn encode(key: &[u8], moment: u64, gone: bool, value: &[u8], out: &mut [u8]) -> Option<usize>
     ensures length { λ r. ⌜ r ≡ written-length (version (now (key .entry)) moment gone (now (value .entry))) (now (out .entry)) ⌝ }
     ensures bytes { λ _. ⌜ now (out .exit) ≡ written (version (now (key .entry)) moment gone (now (value .entry))) (now (out .entry)) ⌝ }
 {
