@@ -1,18 +1,17 @@
 -- Versions in bytes: what was encoded is parsed.
 use mathlib.Core.Path.{_≡_, refl, sym, ap, _∙_}
-use mathlib.Core.Bool.{Bool, true, false, _&&_, not}
+use mathlib.Core.Bool.{Bool, true, false, not}
 use mathlib.Core.Logic.{⊎-elim}
 use mathlib.Core.List.{List, [], _∷_, _++_}
-use Prim.Native.Nat.{ℕ, zero, suc, _+_, _-_, _*_, _/_, _%_, _^_, _≤_, _<_}
+use Prim.Native.Nat.{ℕ, _+_, _/_, _%_, _^_, _≤_, _<_}
 use native.Mathlib.Omega.{arith}
-use lib.Dec.{eqb, leb, ltb}
-use lib.ListN.{length, take, drop, getD, replicate}
-use Rattle.std.proofs.shelf.Lists.{append-assoc, drop-drop, getD-drop, take-at, drop-at, length-append, length-drop, append-nil}
+use lib.Dec.{eqb}
+use lib.ListN.{length, take, drop}
+use Rattle.std.proofs.shelf.Lists.{append-assoc, drop-drop, take-at, drop-at, length-append, length-drop}
 use Rattle.std.proofs.shelf.Tests.{cases-bool, and-parts, and-from, leb-true, ltb-true, eqb-true, le-leb, lt-leb, lt-ltb, eq-eqb, ne-eqb}
-use Rattle.std.specs.declared.option.Option.{Option}
 use Rattle.std.specs.declared.option.Option.the-variants.{Some, None}
 use Rattle.value.specs.Versions.{pick, or, every, added-up, weight, Version, version}
-use Rattle.value.specs.Numbers.{number, bytes-of, part, number-at, put-at, is-byte, all-bytes}
+use Rattle.value.specs.Numbers.{number, bytes-of, part, put-at, is-byte, all-bytes}
 use Rattle.value.specs.Encoding.{limits, in-limits, fits, mark, head, encoding, encoded-length, has-room, key-length, moment-in, mark-in, kind-in, gone-in, value-length, arrival-in, size-in, stands, version-in, place-in, parsed, version-at, end-of, place-of, Lies, Parse-reads-encode}
 use Rattle.value.specs.declared.version.Place.{Place}
 use Rattle.value.proofs.TestLaws.{and-false-right, and-left-of, and-right-of, every-append}

@@ -11,3 +11,6 @@ pub mod OrderLaws
 pub mod NumberLaws
 pub mod EncodingLaws
 pub mod ListLaws
+pub mod WordLaws
+pub mod PackedOrderLaws
+pub mod LoopLaws

@@ -1,19 +1,18 @@
 -- Encoded lists of versions: they read back, and a walk by places goes through them.
 use mathlib.Core.Path.{_≡_, refl, sym, ap, _∙_}
-use mathlib.Core.Bool.{Bool, true, false, _&&_}
+use mathlib.Core.Bool.{Bool, true, false}
 use mathlib.Core.List.{List, [], _∷_, _++_}
-use Prim.Native.Nat.{ℕ, zero, suc, _+_, _-_, _*_, _≤_, _<_}
+use Prim.Native.Nat.{ℕ, zero, suc, _+_, _*_, _≤_, _<_}
 use native.Mathlib.Omega.{arith}
 use lib.ListN.{length, drop, replicate}
 use Rattle.std.proofs.shelf.Lists.{append-assoc, append-nil, length-append, length-drop}
-use Rattle.std.specs.declared.option.Option.{Option}
 use Rattle.std.specs.declared.option.Option.the-variants.{Some, None}
 use Rattle.value.specs.Versions.{pick, every, added-up, weight, Version}
 use Rattle.value.specs.Numbers.{all-bytes, is-byte}
-use Rattle.value.specs.Encoding.{in-limits, fits, encoding, encoded-length, key-length, size-in, stands, version-in, parsed, version-at, end-of, encode-all, parse-all, versions-in, Lists-read-back}
+use Rattle.value.specs.Encoding.{in-limits, fits, encoding, key-length, size-in, stands, version-in, parsed, version-at, end-of, encode-all, parse-all, versions-in, Encoding-sound, Lists-read-back}
 use Rattle.value.specs.declared.version.Place.{Place}
 use Rattle.value.proofs.TestLaws.{and-left-of, and-right-of, every-append, every-mono}
-use Rattle.value.proofs.EncodingLaws.{Stands, stands-true, stands-parts, stands-false, Says, says, limits-parts, length-encoding, all-bytes-encoding, Found, found-there, none-there, version-there, end-there}
+use Rattle.value.proofs.EncodingLaws.{stands-true, stands-parts, stands-false, says, limits-parts, length-encoding, all-bytes-encoding, found-there, none-there, version-there, end-there}
 
 -- how often to look does not matter once it is as often as there are bytes
 enough : (n m : ℕ) (bs : List ℕ) → length bs ≤ n → length bs ≤ m → parse-all n bs ≡ parse-all m bs
@@ -94,3 +93,6 @@ all-bytes-encode-all (v ∷ vs) h =
 
 pub fits-in-limits : (vs : List Version) → every fits vs ≡ true → every in-limits vs ≡ true
 fits-in-limits vs h = every-mono fits in-limits (λ v e. and-left-of (in-limits v) _ e) vs h
+
+pub encoding-sound : Encoding-sound
+encoding-sound = record { long = length-encoding; weighs = length-encode-all; bytes = all-bytes-encode-all }

@@ -1,16 +1,15 @@
 -- Numbers in bytes: what is written reads back, and one part is written behind another.
 use mathlib.Core.Path.{_≡_, refl, sym, ap, _∙_}
-use mathlib.Core.Bool.{Bool, true, false, _&&_}
+use mathlib.Core.Bool.{true}
 use mathlib.Core.List.{List, [], _∷_, _++_}
 use Prim.Native.Nat.{ℕ, zero, suc, _+_, _*_, _/_, _%_, _^_, _≤_, _<_}
 use native.Mathlib.Omega.{arith}
 use native.Mathlib.Nat.{div-div-eq-div-mul, pow-suc}
-use lib.Dec.{ltb}
 use lib.ListN.{length, take, drop, getD}
 use Rattle.std.proofs.shelf.Lists.{append-assoc, length-append, length-take-le, take-at, drop-at, drop-drop}
 use Rattle.std.proofs.shelf.Tests.{lt-ltb, ltb-true}
 use Rattle.value.specs.Versions.{every}
-use Rattle.value.specs.Numbers.{number, bytes-of, number-at, part, put-at, is-byte, all-bytes, Number-round-trips}
+use Rattle.value.specs.Numbers.{number, bytes-of, put-at, is-byte, all-bytes, Number-round-trips}
 use Rattle.value.proofs.TestLaws.{and-left-of, and-right-of}
 
 pub number-bytes-of : (k n : ℕ) → n < 256 ^ k → number (bytes-of k n) ≡ n
@@ -44,6 +43,24 @@ pub all-bytes-of : (k n : ℕ) → all-bytes (bytes-of k n) ≡ true
 unfolding bytes-of every
 all-bytes-of zero n = refl
 all-bytes-of (suc k) n = rw (lt-ltb (n % 256) 256 (omega arith)) (all-bytes-of k (n / 256))
+
+-- each byte of a row is below 256, and a row whose bytes are below 256 is one of bytes
+pub byte-there : (bs : List ℕ) (i : ℕ) → all-bytes bs ≡ true → getD bs i 0 < 256
+unfolding every
+byte-there [] i u = omega arith
+byte-there (b ∷ bs) zero u = ltb-true b 256 (and-left-of (is-byte b) (all-bytes bs) u)
+byte-there (b ∷ bs) (suc i) u = byte-there bs i (and-right-of (is-byte b) (all-bytes bs) u)
+
+pub all-bytes-from : (bs : List ℕ) → ((i : ℕ) → getD bs i 0 < 256) → all-bytes bs ≡ true
+unfolding every
+all-bytes-from [] h = refl
+all-bytes-from (b ∷ bs) h = rw (lt-ltb b 256 (h 0)) (all-bytes-from bs (λ i. h (suc i)))
+
+pub all-bytes-drop : (n : ℕ) (bs : List ℕ) → all-bytes bs ≡ true → all-bytes (drop n bs) ≡ true
+unfolding every
+all-bytes-drop zero bs u = u
+all-bytes-drop (suc n) [] u = refl
+all-bytes-drop (suc n) (b ∷ bs) u = all-bytes-drop n bs (and-right-of (is-byte b) (all-bytes bs) u)
 
 pub number-round-trips : Number-round-trips
 number-round-trips = record { reads = number-bytes-of; writes = bytes-of-number; bytes = all-bytes-of; long = length-bytes-of }
@@ -85,10 +102,6 @@ number-8 bs =
     )
 
 -- the bytes as the library writes them
-pub bytes-2 : (n : ℕ) → n % 256 ∷ n / 256 % 256 ∷ [] ≡ bytes-of 2 n
-unfolding bytes-of
-bytes-2 n = refl
-
 pub bytes-8 : (n : ℕ) → n % 256 ∷ n / 256 % 256 ∷ n / 65536 % 256 ∷ n / 16777216 % 256 ∷ n / 4294967296 % 256 ∷ n / 1099511627776 % 256 ∷ n / 281474976710656 % 256 ∷ n / 72057594037927936 % 256 ∷ [] ≡ bytes-of 8 n
 unfolding bytes-of
 bytes-8 n = simp div-div-eq-div-mul

@@ -11,15 +11,15 @@
 --   encode-all vs       the encodings of versions, one behind another
 --   versions-in bs      the versions that bytes begin with, up to where none stands
 use mathlib.Core.Path.{_≡_}
-use mathlib.Core.Bool.{Bool, true, false, _&&_, not}
+use mathlib.Core.Bool.{Bool, true, _&&_, not}
 use mathlib.Core.List.{List, [], _∷_, _++_}
 use Prim.Native.Nat.{ℕ, zero, suc, _+_, _*_, _/_, _%_, _^_, _≤_, _<_}
 use lib.Dec.{eqb, ltb, leb}
-use lib.ListN.{length, take, drop, getD, replicate}
+use lib.ListN.{length, drop, getD, replicate}
 use Rattle.std.specs.declared.option.Option.{Option}
 use Rattle.std.specs.declared.option.Option.the-variants.{Some, None}
-use Rattle.value.specs.Versions.{pick, or, every, Version, version}
-use Rattle.value.specs.Numbers.{number, bytes-of, part, number-at, all-bytes}
+use Rattle.value.specs.Versions.{pick, or, every, Version, version, weight}
+use Rattle.value.specs.Numbers.{bytes-of, part, number-at, all-bytes}
 use Rattle.value.specs.declared.version.Place.{Place}
 
 -- LIMITS, by a key's length, a moment, whether it is gone, a value's length
@@ -156,6 +156,12 @@ Parse-reads-encode =
     (xs : List ℕ) (v : Version) (ys : List ℕ) → in-limits v ≡ true →
     (parsed (xs ++ (encoding v ++ ys)) (length xs) ≡ Some (place-of (length xs) v))
     × (version-at (xs ++ (encoding v ++ ys)) (place-of (length xs) v) ≡ v)
+
+-- An encoding is fifteen bytes and the key's and the value's: 49 less than the version weighs. Its numbers are bytes if the version's are.
+pub record Encoding-sound : Type 0 where
+  pub long : (v : Version) → length (encoding v) ≡ encoded-length v
+  pub weighs : (vs : List Version) → length (encode-all vs) + 49 * length vs ≡ weight vs
+  pub bytes : (vs : List Version) → every fits vs ≡ true → all-bytes (encode-all vs) ≡ true
 
 -- Lists of versions read back, with zeros behind them or other bytes.
 abbrev pub Lists-read-back : Type 0

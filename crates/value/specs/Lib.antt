@@ -6,3 +6,5 @@ pub mod Order
 pub mod Count
 pub mod Numbers
 pub mod Encoding
+pub mod Words
+pub mod Loops

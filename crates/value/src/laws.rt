@@ -2,7 +2,9 @@
 ghost use Rattle.value.specs.Answers.{Not-missed, Twice-once, Range-right, Later-first, Write-seen};
 ghost use Rattle.value.specs.Sorted.{Sort-orders, Sort-weighs, Lookup-right, Merge-right, Push-right, Forget-right, Visible-right};
 ghost use Rattle.value.specs.Numbers.{Number-round-trips};
-ghost use Rattle.value.specs.Encoding.{Parse-reads-encode, Lists-read-back};
+ghost use Rattle.value.specs.Loops.{Bisects};
+ghost use Rattle.value.specs.Words.{Packing, Words-compare};
+ghost use Rattle.value.specs.Encoding.{Encoding-sound, Parse-reads-encode, Lists-read-back};
 
 // What is forgotten is not missed, from the moment on.
 pub fn not_missed()
@@ -69,6 +71,11 @@ pub fn numbers_read_back()
     ensures { λ _. ⌜ Number-round-trips ⌝ }
 {}
 
+// An encoding is made of bytes, 49 fewer than its version weighs.
+pub fn encoding_sound()
+    ensures { λ _. ⌜ Encoding-sound ⌝ }
+{}
+
 // What was encoded is parsed, whatever stands before and behind it, and there the version lies.
 pub fn parse_reads_encode()
     ensures { λ _. ⌜ Parse-reads-encode ⌝ }
@@ -77,4 +84,19 @@ pub fn parse_reads_encode()
 // Encoded lists read back, with zeros behind them or other bytes.
 pub fn lists_read_back()
     ensures { λ _. ⌜ Lists-read-back ⌝ }
+{}
+
+// Bytes that are packed come out again, also where they were written over words.
+pub fn packed_reads_back()
+    ensures { λ _. ⌜ Packing ⌝ }
+{}
+
+// Packed bytes compare as their words do, and then as their lengths.
+pub fn words_compare()
+    ensures { λ _. ⌜ Words-compare ⌝ }
+{}
+
+// A search by halves finds where a test begins to fail.
+pub fn bisection_finds()
+    ensures { λ _. ⌜ Bisects ⌝ }
 {}

@@ -16,7 +16,7 @@ pub fn rest(row: &[u8], at: usize) -> &[u8]
 }
 
 // The byte at a place, or 0 past the end.
-fn byte(row: &[u8], at: usize) -> u8
+pub fn byte(row: &[u8], at: usize) -> u8
     ensures { λ r. ⌜ r ≡ getD (now (row .entry)) at 0 ⌝ }
 {
     if at < row.len() { row[at] } else { 0 }

@@ -1,7 +1,6 @@
 // A version in bytes: where it lies in a lent row, and how it is written. specs/Encoding.antt has the layout.
 ghost use mathlib.Core.Path.{_≡_};
 ghost use Prim.Native.Nat.{_<_, _≤_};
-ghost use lib.ListN.{length};
 ghost use Rattle.std.specs.Slices.{found};
 ghost use Rattle.value.specs.Versions.{version};
 ghost use Rattle.value.specs.Encoding.{limits, head, written-length, written, parsed, key-at, value-at, version-at, Lies};
@@ -124,7 +123,7 @@ fn head_of(key_len: usize, moment: u64, gone: bool, value_len: usize) -> [u8; 15
 
 // Writes a version at the front of `out`, and says how many bytes it took; outside the limits, or without room, nothing.
 pub fn encode(key: &[u8], moment: u64, gone: bool, value: &[u8], out: &mut [u8]) -> Option<usize>
-    ensures length { λ r. ⌜ r ≡ written-length (version (now (key .entry)) moment gone (now (value .entry))) (now (out .entry)) ⌝ }
+    ensures len { λ r. ⌜ r ≡ written-length (version (now (key .entry)) moment gone (now (value .entry))) (now (out .entry)) ⌝ }
     ensures bytes { λ _. ⌜ now (out .exit) ≡ written (version (now (key .entry)) moment gone (now (value .entry))) (now (out .entry)) ⌝ }
 {
     if !in_limits(key.len(), moment, gone, value.len()) {

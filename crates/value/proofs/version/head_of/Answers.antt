@@ -1,10 +1,10 @@
-use mathlib.Core.Path.{_≡_, refl, sym, ap, _∙_}
-use mathlib.Core.List.{List, [], _∷_, _++_}
-use Prim.Native.Nat.{ℕ, _+_}
+use mathlib.Core.Path.{_≡_, ap, _∙_}
+use mathlib.Core.List.{[], _∷_}
+use Prim.Native.Nat.{_+_}
 use lib.ListN.{getD}
 use Rattle.value.specs.Numbers.{bytes-of}
 use Rattle.value.specs.Encoding.{mark, head}
-use Rattle.value.proofs.NumberLaws.{bytes-2, bytes-8}
+use Rattle.value.proofs.NumberLaws.{bytes-8}
 use Rattle.value.proofs.version.head_of.Needs as need
 use Rattle.value.proofs.version.head_of.Needs.{then-gone, else-gone}
 
