@@ -7,7 +7,7 @@ use Prim.Native.Nat.{ℕ, _+_, _/_, _%_, _^_, _≤_, _<_}
 use native.Mathlib.Omega.{arith}
 use lib.Dec.{eqb}
 use lib.ListN.{length, take, drop}
-use Rattle.std.proofs.shelf.Lists.{append-assoc, drop-drop, take-at, drop-at, length-append, length-drop}
+use Rattle.std.proofs.shelf.Lists.{append-assoc, drop-drop, take-at, drop-at, length-append, length-drop, length-take-le}
 use Rattle.std.proofs.shelf.Tests.{cases-bool, and-parts, and-from, leb-true, ltb-true, eqb-true, le-leb, lt-leb, lt-ltb, eq-eqb, ne-eqb}
 use Rattle.std.specs.declared.option.Option.the-variants.{Some, None}
 use Rattle.value.specs.Versions.{pick, or, every, added-up, weight, Version, version}
@@ -233,6 +233,15 @@ pub end-there : (row : List ℕ) (at : ℕ) → drop (end-of (place-in (drop at 
 end-there row at =
     let n : at + 15 + key-length (drop at row) + value-length (drop at row) ≡ at + size-in (drop at row) = omega arith in
     ap (λ t. drop t row) n ∙ sym (drop-drop (size-in (drop at row)) at row)
+
+-- what stands is in limits
+pub version-in-limits : (bs : List ℕ) → Stands bs → in-limits (version-in bs) ≡ true
+version-in-limits bs s =
+    let d = length-drop 15 bs in
+    let e = length-drop (15 + key-length bs) bs in
+    let k : length (part 15 (key-length bs) bs) ≡ key-length bs = length-take-le _ _ (omega (arith, s .room)) in
+    let n : length (part (15 + key-length bs) (value-length bs) bs) ≡ value-length bs = length-take-le _ _ (omega (arith, s .room)) in
+    (λ i. limits (k i) (moment-in bs) (gone-in bs) (n i)) ∙ s .limited
 
 pub parse-reads-encode : Parse-reads-encode
 unfolding parsed

@@ -12,7 +12,7 @@ use Rattle.value.specs.Numbers.{all-bytes, is-byte}
 use Rattle.value.specs.Encoding.{in-limits, fits, encoding, key-length, size-in, stands, version-in, parsed, version-at, end-of, encode-all, parse-all, versions-in, Encoding-sound, Lists-read-back}
 use Rattle.value.specs.declared.version.Place.{Place}
 use Rattle.value.proofs.TestLaws.{and-left-of, and-right-of, every-append, every-mono}
-use Rattle.value.proofs.EncodingLaws.{stands-true, stands-parts, stands-false, says, limits-parts, length-encoding, all-bytes-encoding, found-there, none-there, version-there, end-there}
+use Rattle.value.proofs.EncodingLaws.{stands-true, stands-parts, stands-false, says, limits-parts, version-in-limits, length-encoding, all-bytes-encoding, found-there, none-there, version-there, end-there}
 
 -- how often to look does not matter once it is as often as there are bytes
 enough : (n m : ℕ) (bs : List ℕ) → length bs ≤ n → length bs ≤ m → parse-all n bs ≡ parse-all m bs
@@ -43,6 +43,21 @@ versions-first bs t =
 pub versions-none : (bs : List ℕ) → stands bs ≡ false → versions-in bs ≡ []
 unfolding versions-in parse-all
 versions-none bs t = enough (length bs) (suc (length bs)) bs (omega arith) (omega arith) ∙ rw t refl
+
+-- all that are read are in limits
+all-limited : (n : ℕ) (bs : List ℕ) → every in-limits (parse-all n bs) ≡ true
+unfolding parse-all every
+all-limited zero bs = refl
+all-limited (suc n) bs = go (stands bs) refl (all-limited n (drop (size-in bs) bs))
+  where
+    go : (b : Bool) → stands bs ≡ b → every in-limits (parse-all n (drop (size-in bs) bs)) ≡ true →
+        every in-limits (pick b (version-in bs ∷ parse-all n (drop (size-in bs) bs)) []) ≡ true
+    go true t ih = rw (version-in-limits bs (stands-parts bs t)) ih
+    go false t ih = refl
+
+pub versions-in-limits : (bs : List ℕ) → every in-limits (versions-in bs) ≡ true
+unfolding versions-in
+versions-in-limits bs = all-limited (length bs) bs
 
 -- a walk by places: the version at the place that was found, and those from its end on
 pub walk-on : (row : List ℕ) (at : ℕ) (p : Place) → parsed row at ≡ Some p → versions-in (drop at row) ≡ version-at row p ∷ versions-in (drop (end-of p) row)

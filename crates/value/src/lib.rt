@@ -1,4 +1,4 @@
-// Versions of keys: their order, and the laws of one list of versions, in the order in which they came and in the order of a table.
+// Versions of keys: their order, their bytes and words, and the laws of one list of versions, in the order in which they came and in the order of a table.
 mod count;
 mod key;
 mod laws;
