@@ -45,15 +45,15 @@ before-parts x y xs ys e = go (ltb x y) (eqb x y) refl refl e
     go false true p q e = inr (eqb-true x y q, e)
     go false false p q e = clash true refl (sym e)
 
-before-less : (x y : ℕ) (xs ys : List ℕ) → x < y → before (x ∷ xs) (y ∷ ys) ≡ true
+pub before-less : (x y : ℕ) (xs ys : List ℕ) → x < y → before (x ∷ xs) (y ∷ ys) ≡ true
 unfolding before
 before-less x y xs ys h = rw (lt-ltb x y h) refl
 
-before-tail : (x y : ℕ) (xs ys : List ℕ) → x ≡ y → before (x ∷ xs) (y ∷ ys) ≡ before xs ys
+pub before-tail : (x y : ℕ) (xs ys : List ℕ) → x ≡ y → before (x ∷ xs) (y ∷ ys) ≡ before xs ys
 unfolding before
 before-tail x y xs ys h = rw (le-ltb x y (omega arith), eq-eqb x y h) refl
 
-before-more : (x y : ℕ) (xs ys : List ℕ) → y < x → before (x ∷ xs) (y ∷ ys) ≡ false
+pub before-more : (x y : ℕ) (xs ys : List ℕ) → y < x → before (x ∷ xs) (y ∷ ys) ≡ false
 unfolding before
 before-more x y xs ys h = rw (le-ltb x y (omega arith), ne-eqb x y (omega arith)) refl
 
@@ -84,11 +84,11 @@ pub data Order (a b : List ℕ) : Type 0 where
   same-as : a ≡ b → before a b ≡ false → before b a ≡ false → same a b ≡ true → Order a b
   behind-it : before a b ≡ false → before b a ≡ true → same a b ≡ false → Order a b
 
-same-tail : (x y : ℕ) (xs ys : List ℕ) → x ≡ y → same (x ∷ xs) (y ∷ ys) ≡ same xs ys
+pub same-tail : (x y : ℕ) (xs ys : List ℕ) → x ≡ y → same (x ∷ xs) (y ∷ ys) ≡ same xs ys
 unfolding same
 same-tail x y xs ys h = rw (eq-eqb x y h) refl
 
-same-apart : (x y : ℕ) (xs ys : List ℕ) → ¬ (x ≡ y) → same (x ∷ xs) (y ∷ ys) ≡ false
+pub same-apart : (x y : ℕ) (xs ys : List ℕ) → ¬ (x ≡ y) → same (x ∷ xs) (y ∷ ys) ≡ false
 unfolding same
 same-apart x y xs ys h = rw (ne-eqb x y h) refl
 

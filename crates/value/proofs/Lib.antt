@@ -9,3 +9,6 @@ pub mod ForgettingLaws
 pub mod VisibleLaws
 pub mod OrderLaws
 pub mod UpstreamLaws
+pub mod NumberLaws
+pub mod EncodingLaws
+pub mod ListLaws

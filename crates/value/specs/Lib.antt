@@ -5,3 +5,5 @@ pub mod Sorted
 pub mod Order
 pub mod Count
 pub mod Upstream
+pub mod Numbers
+pub mod Encoding

@@ -2,6 +2,8 @@
 ghost use Rattle.value.specs.Answers.{Not-missed, Twice-once, Range-right, Later-first, Write-seen};
 ghost use Rattle.value.specs.Upstream.{Streams-agree, Streams-differ};
 ghost use Rattle.value.specs.Sorted.{Sort-orders, Sort-weighs, Lookup-right, Merge-right, Push-right, Forget-right, Visible-right};
+ghost use Rattle.value.specs.Numbers.{Number-round-trips};
+ghost use Rattle.value.specs.Encoding.{Encoding-sound, Parse-reads-encode, Lists-read-back};
 
 // What is forgotten is not missed, from the moment on.
 pub fn not_missed()
@@ -71,4 +73,24 @@ pub fn streams_agree()
 // Upstream's streams' cases that the definitions answer otherwise on purpose.
 pub fn streams_differ()
     ensures { λ _. ⌜ Streams-differ ⌝ }
+{}
+
+// A number that is written reads back, and bytes that are read write back.
+pub fn numbers_read_back()
+    ensures { λ _. ⌜ Number-round-trips ⌝ }
+{}
+
+// An encoding is made of bytes, 49 fewer than its version weighs.
+pub fn encoding_sound()
+    ensures { λ _. ⌜ Encoding-sound ⌝ }
+{}
+
+// What was encoded is parsed, whatever stands before and behind it, and there the version lies.
+pub fn parse_reads_encode()
+    ensures { λ _. ⌜ Parse-reads-encode ⌝ }
+{}
+
+// Encoded lists read back, with zeros behind them or other bytes.
+pub fn lists_read_back()
+    ensures { λ _. ⌜ Lists-read-back ⌝ }
 {}

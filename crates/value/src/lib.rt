@@ -1,15 +1,21 @@
-// Versions of keys: their order, and the laws of one list of versions, in the order in which they came and in the order of a table.
+// Versions of keys: their order, their bytes and words, and the laws of one list of versions, in the order in which they came and in the order of a table.
 mod count;
 mod key;
 mod laws;
+mod number;
+mod version;
 
 pub use count::smaller_of;
 pub use key::Reply;
 pub use key::order;
+pub use laws::encoding_sound;
 pub use laws::later_first;
+pub use laws::lists_read_back;
 pub use laws::lookup_is_latest;
 pub use laws::merge_sorts;
 pub use laws::not_missed;
+pub use laws::numbers_read_back;
+pub use laws::parse_reads_encode;
 pub use laws::push_sorts;
 pub use laws::range_right;
 pub use laws::sort_orders;
@@ -20,3 +26,14 @@ pub use laws::streams_agree;
 pub use laws::streams_differ;
 pub use laws::twice_once;
 pub use laws::write_seen;
+pub use number::byte;
+pub use number::part_of;
+pub use number::read_u16;
+pub use number::read_u32;
+pub use number::read_u64;
+pub use version::Place;
+pub use version::encode;
+pub use version::key_of;
+pub use version::order_versions;
+pub use version::parse;
+pub use version::value_of;
