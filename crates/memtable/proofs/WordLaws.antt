@@ -3,13 +3,14 @@ use mathlib.Core.Path.{_≡_, refl, sym, ap, _∙_}
 use mathlib.Core.List.{List, [], _∷_, _++_, map}
 use Prim.Native.Nat.{ℕ, zero, suc, _+_, _-_, _*_, _/_, _%_, _^_, _≤_, _<_}
 use native.Mathlib.Omega.{arith}
+use native.Mathlib.Numerals.{add-one}
 use lib.ListN.{length, getD, take, drop, set}
 use mathlib.Core.Logic.{inl, inr}
 use Rattle.std.specs.Iters.{counting}
 use Rattle.std.specs.shelf.Lists.{paste}
 use Rattle.std.proofs.shelf.Counted.{length-map-counting, getD-map-counting}
 use Rattle.std.proofs.shelf.Edits.{paste-none, paste-more, paste-all}
-use Rattle.std.proofs.shelf.Lists.{append-assoc, take-all, drop-all, take-more, drop-more, length-take-le, set-append-right}
+use Rattle.std.proofs.shelf.Lists.{append-assoc, take-all, drop-all, take-more, drop-more, take-at, drop-at, drop-drop, length-take, length-drop, length-append, length-take-le, set-append-right, set-split}
 use Rattle.std.proofs.shelf.Tests.{cases-lt, lt-ltb, le-ltb}
 use Rattle.value.specs.Count.{smaller}
 use Rattle.memtable.specs.Words.{octet, word, words, packed-word, pack, byte, byte-behind, row, laid, put-row}
@@ -67,3 +68,26 @@ pub below-smaller : (i m a b : ℕ) → m ≡ smaller a b → i < m → (i < a) 
 below-smaller i m a b e h = elim (cases-lt a b) [
       inl l ↦ let k : m ≡ a = rw (lt-ltb a b l) at e in (omega arith, omega arith)
     | inr l ↦ let k : m ≡ b = rw (le-ltb a b l) at e in (omega arith, omega arith) ]
+
+-- words written one after another
+pub put-one : (ws : List ℕ) (i x : ℕ) → i < length ws → set ws i x ≡ put-row ws i (x ∷ [])
+unfolding put-row
+put-one ws i x h = rw add-one (set-split ws i x h)
+
+pub length-put : (ws : List ℕ) (at : ℕ) (xs : List ℕ) → at + length xs ≤ length ws → length (put-row ws at xs) ≡ length ws
+unfolding put-row
+length-put ws at xs h = simp (length-append, length-take, length-drop) (omega arith)
+
+pub put-put : (ws : List ℕ) (at next : ℕ) (xs ys : List ℕ) → next ≡ at + length xs → at ≤ length ws → put-row (put-row ws at xs) next ys ≡ put-row ws at (xs ++ ys)
+unfolding put-row
+put-put ws at next xs ys e h =
+    let a : length (take at ws) ≡ at = length-take-le at ws h in
+    let b : length (take at ws ++ xs) ≡ next = length-append (take at ws) xs ∙ omega arith in
+    let w : take at ws ++ (xs ++ drop (at + length xs) ws) ≡ (take at ws ++ xs) ++ drop (at + length xs) ws = sym (append-assoc (take at ws) xs (drop (at + length xs) ws)) in
+    let d : drop (next + length ys) ((take at ws ++ xs) ++ drop (at + length xs) ws) ≡ drop (at + length (xs ++ ys)) ws =
+          sym (drop-drop (length ys) next ((take at ws ++ xs) ++ drop (at + length xs) ws))
+          ∙ ap (drop (length ys)) (drop-at (take at ws ++ xs) (drop (at + length xs) ws) next b)
+          ∙ drop-drop (length ys) (at + length xs) ws
+          ∙ ap (λ k. drop k ws) (let l = length-append xs ys in omega arith) in
+    rw (w, take-at (take at ws ++ xs) (drop (at + length xs) ws) next b, d)
+      (append-assoc (take at ws) xs (ys ++ drop (at + length (xs ++ ys)) ws) ∙ ap (λ l. take at ws ++ l) (sym (append-assoc xs ys (drop (at + length (xs ++ ys)) ws))))

@@ -1,2 +1,4 @@
 pub mod Words
 pub mod Loops
+pub mod Arena
+pub mod Index

@@ -30,7 +30,7 @@ fn octet_at(bs: &[u8], i: u64) -> u64
 }
 
 // The eight bytes from k on as one word.
-fn word_at(bs: &[u8], k: u64) -> u64
+pub fn word_at(bs: &[u8], k: u64) -> u64
     requires { ⌜ k ≤ 4096 ⌝ }
     ensures { λ r. ⌜ r ≡ word (now (bs .entry)) k ⌝ }
 {
