@@ -52,22 +52,24 @@ laid-more bs out i b p q e =
     let f = drop-more out i 0 q in
     let t = take-more bs i 0 p in
     rw (f, t, e) (
-      set-append-right (take i bs) (getD out i 0 ∷ drop (i + 1) out) i i (getD bs i 0) (length-take-le i bs (omega arith)) (omega arith)
-      ∙ let z : i - i ≡ 0 = omega arith in rw z (sym (append-assoc (take i bs) (getD bs i 0 ∷ []) (drop (i + 1) out)))
+    set-append-right (take i bs) (getD out i 0 ∷ drop (i + 1) out) i i (getD bs i 0) (length-take-le i bs (omega arith)) (omega arith)
+    ∙ let z : i - i ≡ 0 = omega arith in rw z (sym (append-assoc (take i bs) (getD bs i 0 ∷ []) (drop (i + 1) out)))
     )
 
 pub laid-all : (bs out : List ℕ) (m n : ℕ) → length bs ≡ n → m ≡ smaller n (length out) → laid-so-far bs out m ≡ laid bs out
 unfolding laid
 laid-all bs out m n l e = elim (cases-lt n (length out)) [
-      inl h ↦ let k : m ≡ length bs = rw (lt-ltb n (length out) h) at e ∙ sym l in
-        rw (k, take-all (length bs) bs (omega arith), take-all (length out) bs (omega arith)) refl
-    | inr h ↦ let k : m ≡ length out = rw (le-ltb n (length out) h) at e in
-        rw (k, drop-all (length out) out (omega arith), drop-all (length bs) out (omega arith)) refl ]
+  | inl h ↦ let k : m ≡ length bs = rw (lt-ltb n (length out) h) at e ∙ sym l in
+      rw (k, take-all (length bs) bs (omega arith), take-all (length out) bs (omega arith)) refl
+  | inr h ↦ let k : m ≡ length out = rw (le-ltb n (length out) h) at e in
+      rw (k, drop-all (length out) out (omega arith), drop-all (length bs) out (omega arith)) refl
+]
 
 pub below-smaller : (i m a b : ℕ) → m ≡ smaller a b → i < m → (i < a) × (i < b)
 below-smaller i m a b e h = elim (cases-lt a b) [
-      inl l ↦ let k : m ≡ a = rw (lt-ltb a b l) at e in (omega arith, omega arith)
-    | inr l ↦ let k : m ≡ b = rw (le-ltb a b l) at e in (omega arith, omega arith) ]
+  | inl l ↦ let k : m ≡ a = rw (lt-ltb a b l) at e in (omega arith, omega arith)
+  | inr l ↦ let k : m ≡ b = rw (le-ltb a b l) at e in (omega arith, omega arith)
+]
 
 -- words written one after another
 pub put-one : (ws : List ℕ) (i x : ℕ) → i < length ws → set ws i x ≡ put-row ws i (x ∷ [])
@@ -85,9 +87,9 @@ put-put ws at next xs ys e h =
     let b : length (take at ws ++ xs) ≡ next = length-append (take at ws) xs ∙ omega arith in
     let w : take at ws ++ (xs ++ drop (at + length xs) ws) ≡ (take at ws ++ xs) ++ drop (at + length xs) ws = sym (append-assoc (take at ws) xs (drop (at + length xs) ws)) in
     let d : drop (next + length ys) ((take at ws ++ xs) ++ drop (at + length xs) ws) ≡ drop (at + length (xs ++ ys)) ws =
-          sym (drop-drop (length ys) next ((take at ws ++ xs) ++ drop (at + length xs) ws))
-          ∙ ap (drop (length ys)) (drop-at (take at ws ++ xs) (drop (at + length xs) ws) next b)
-          ∙ drop-drop (length ys) (at + length xs) ws
-          ∙ ap (λ k. drop k ws) (let l = length-append xs ys in omega arith) in
+    sym (drop-drop (length ys) next ((take at ws ++ xs) ++ drop (at + length xs) ws))
+    ∙ ap (drop (length ys)) (drop-at (take at ws ++ xs) (drop (at + length xs) ws) next b)
+    ∙ drop-drop (length ys) (at + length xs) ws
+    ∙ ap (λ k. drop k ws) (let l = length-append xs ys in omega arith) in
     rw (w, take-at (take at ws ++ xs) (drop (at + length xs) ws) next b, d)
-      (append-assoc (take at ws) xs (ys ++ drop (at + length (xs ++ ys)) ws) ∙ ap (λ l. take at ws ++ l) (sym (append-assoc xs ys (drop (at + length (xs ++ ys)) ws))))
+    (append-assoc (take at ws) xs (ys ++ drop (at + length (xs ++ ys)) ws) ∙ ap (λ l. take at ws ++ l) (sym (append-assoc xs ys (drop (at + length (xs ++ ys)) ws))))

@@ -2,3 +2,4 @@ pub mod Words
 pub mod Loops
 pub mod Arena
 pub mod Index
+pub mod Memtable

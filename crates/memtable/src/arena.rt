@@ -74,7 +74,13 @@ pub fn key_into(arena: &[u64], place: u64, out: &mut [u8])
 pub fn value_into(arena: &[u64], place: u64, out: &mut [u8])
     ensures { λ _. ⌜ now (out .exit) ≡ laid (value-at (now (arena .entry)) place) (now (out .entry)) ⌝ }
 {
-    unpack_into(arena, place, 2 + words_of(key_len(arena, place)), value_len(arena, place), out);
+    unpack_into(
+        arena,
+        place,
+        2 + words_of(key_len(arena, place)),
+        value_len(arena, place),
+        out,
+    );
 }
 
 // Two lengths: the shorter is before.
@@ -114,7 +120,11 @@ fn measures_of(k: u64, v: u64, gone: bool) -> u64
     requires { ⌜ k ≤ 255 ⌝ ∗ ⌜ v ≤ 1024 ⌝ }
     ensures { λ r. ⌜ r ≡ measures k v gone ⌝ }
 {
-    if gone { k + (256 * v + 1048576) } else { k + 256 * v }
+    if gone {
+        k + (256 * v + 1048576)
+    } else {
+        k + 256 * v
+    }
 }
 
 // Is a version with a key of k bytes and a value of v allowed, and do n words have room for it behind those that are used?

@@ -1,6 +1,7 @@
 // What is in memory: versions of keys in two lent rows of words, an arena in the order in which they came and an index in the order of a table.
 mod arena;
 mod index;
+mod memtable;
 mod words;
 
 pub use arena::append;
@@ -16,3 +17,5 @@ pub use arena::value_into;
 pub use arena::value_len;
 pub use index::enter;
 pub use index::place_at;
+pub use memtable::Memtable;
+pub use memtable::empty;

@@ -18,7 +18,11 @@ pub fn peek_behind(ws: &[u64], place: u64, k: u64) -> u64
     ensures { λ r. ⌜ r ≡ getD (now (ws .entry)) (place + k) 0 ⌝ }
 {
     let n = ws.len() as u64;
-    if place < n && k < n - place { ws[(place + k) as usize] } else { 0 }
+    if place < n && k < n - place {
+        ws[(place + k) as usize]
+    } else {
+        0
+    }
 }
 
 // Byte i of a row, 0 past its end.

@@ -21,8 +21,8 @@ returns c =
     ∙ ap (λ n. put-row (c .put-bytes .last .ws) (c .args .used + 2 + n) (pack (c .args .value .now))) (c .words-of .ensures)
     ∙ ap (λ ws. put-row ws (c .args .used + 2 + words (length (c .args .key .now))) (pack (c .args .value .now))) (c .put-bytes .ensures)
     ∙ ap (λ h. put-row (put-row (set (set (c .args .arena .now) (c .args .used) (c .args .moment)) (c .args .used + 1) h) (c .args .used + 2) (pack (c .args .key .now)))
-        (c .args .used + 2 + words (length (c .args .key .now))) (pack (c .args .value .now))) (c .measures-of .ensures)
+    (c .args .used + 2 + words (length (c .args .key .now))) (pack (c .args .value .now))) (c .measures-of .ensures)
     ∙ ap (λ x. put-row (put-row (set (set (c .args .arena .now) (c .args .used) x) (c .args .used + 1) (measures (length (c .args .key .now)) (length (c .args .value .now)) (c .args .gone))) (c .args .used + 2) (pack (c .args .key .now)))
-        (c .args .used + 2 + words (length (c .args .key .now))) (pack (c .args .value .now))) m
+    (c .args .used + 2 + words (length (c .args .key .now))) (pack (c .args .value .now))) m
     ∙ appended-whole (c .args .arena .now) (c .args .used) (version (c .args .key .now) (c .args .moment) (c .args .gone) (c .args .value .now))
-      (sym (c .if-not-has-room .ensures tt))
+    (sym (c .if-not-has-room .ensures tt))
