@@ -1,3 +1,5 @@
 pub mod WordLaws
 pub mod LoopLaws
 pub mod StepLaws
+pub mod PackLaws
+pub mod KeyOrderLaws

@@ -2,10 +2,17 @@
 -- `octet bs i`: byte i of a row, 0 past its end. `word bs k`: the eight bytes from k on as one word. `words n`: how many words n bytes take.
 -- `pack bs`: the bytes as words. `byte w k`: byte k of a word. `row ws p s n`: the n bytes that lie s words behind the place p.
 -- `laid bs out`: a row of bytes with bs laid over its beginning, as far as there is room. `put-row ws at xs`: words with xs written over them from `at` on.
+use mathlib.Core.Bool.{Bool}
 use mathlib.Core.List.{List, [], _∷_, _++_, map}
 use Prim.Native.Nat.{ℕ, zero, suc, _+_, _*_, _-_, _/_, _%_, _^_}
+use lib.Dec.{ltb}
 use lib.ListN.{length, getD, take, drop}
 use Rattle.std.specs.Iters.{counting}
+use Rattle.value.specs.Versions.{every}
+
+-- is each number of a row a byte?
+abbrev pub bytes : List ℕ → Bool
+bytes bs = every (λ b. ltb b 256) bs
 
 abbrev pub octet : List ℕ → ℕ → ℕ
 octet bs i = getD bs i 0 % 256
