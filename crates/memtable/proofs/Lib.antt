@@ -3,3 +3,4 @@ pub mod LoopLaws
 pub mod StepLaws
 pub mod PackLaws
 pub mod KeyOrderLaws
+pub mod ReadLaws

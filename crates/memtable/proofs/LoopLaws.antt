@@ -56,3 +56,27 @@ bisect-done p (suc n) low high l = rw (le-ltb low high l) refl
 pub bisect-end : (p : ℕ → Bool) (n k low high : ℕ) → n ≤ k → bisect p (n - k) low high ≡ low
 unfolding bisect
 bisect-end p n k low high h = let e : n - k ≡ zero = omega arith in rw e refl
+
+-- where the test holds up to a point and no further, the search ends at that point
+pub record Parts (p : ℕ → Bool) (n r : ℕ) : Type 0 where
+  pub within : r ≤ n
+  pub low : (k : ℕ) → k < r → p k ≡ true
+  pub high : (k : ℕ) → r ≤ k → k < n → p k ≡ false
+
+falls : (p : ℕ → Bool) (n : ℕ) → ((i j : ℕ) → i ≤ j → j < n → p j ≡ true → p i ≡ true) → (i j : ℕ) → i ≤ j → j < n → p i ≡ false → p j ≡ false
+falls p n mono i j le lt e = elim (cases-bool (p j)) [ inl t ↦ absurd (both-ways (p i) e (mono i j le lt t)) | inr f ↦ f ]
+
+pub bisect-parts : (p : ℕ → Bool) (n : ℕ) → ((i j : ℕ) → i ≤ j → j < n → p j ≡ true → p i ≡ true) →
+    (rounds low high : ℕ) → low ≤ high → high ≤ n → high - low < 2 ^ rounds → ((k : ℕ) → k < low → p k ≡ true) → ((k : ℕ) → high ≤ k → k < n → p k ≡ false) →
+    Parts p n (bisect p rounds low high)
+unfolding bisect
+bisect-parts p n mono zero low high a b c below above = record { within = omega arith; low = below; high = λ k g h. above k (omega arith) h }
+bisect-parts p n mono (suc rounds) low high a b c below above =
+    let e = pow-suc 2 rounds in
+    elim (cases-lt low high) [
+      inr g ↦ rw (le-ltb low high g) (record { within = omega arith; low = below; high = λ k j h. above k (omega arith) h })
+    | inl g ↦ rw (lt-ltb low high g) (elim (cases-bool (p (middle low high))) [
+        inl t ↦ rw t (bisect-parts p n mono rounds (middle low high + 1) high (omega arith) b (omega arith)
+            (λ k h. mono k (middle low high) (omega arith) (omega arith) t) above)
+      | inr f ↦ rw f (bisect-parts p n mono rounds low (middle low high) (omega arith) (omega arith) (omega arith) below
+            (λ k h l. falls p n mono (middle low high) k h l f)) ]) ]

@@ -93,3 +93,6 @@ put-put ws at next xs ys e h =
     ∙ ap (λ k. drop k ws) (let l = length-append xs ys in omega arith) in
     rw (w, take-at (take at ws ++ xs) (drop (at + length xs) ws) next b, d)
     (append-assoc (take at ws) xs (ys ++ drop (at + length (xs ++ ys)) ws) ∙ ap (λ l. take at ws ++ l) (sym (append-assoc xs ys (drop (at + length (xs ++ ys)) ws))))
+
+pub smaller-left : (a b : ℕ) → smaller a b ≤ a
+smaller-left a b = elim (cases-lt a b) [ inl l ↦ rw (lt-ltb a b l) (omega arith) | inr l ↦ rw (le-ltb a b l) (omega arith) ]

@@ -3,3 +3,4 @@ pub mod Loops
 pub mod Arena
 pub mod Index
 pub mod Memtable
+pub mod Holds
