@@ -4,3 +4,4 @@ pub mod StepLaws
 pub mod PackLaws
 pub mod KeyOrderLaws
 pub mod ReadLaws
+pub mod SearchLaws

@@ -8,7 +8,7 @@ use Prim.Native.Nat.{ℕ, zero, suc, _+_, _*_, _≤_, _<_}
 use lib.Dec.{ltb, leb}
 use lib.ListN.{length, getD, take, drop}
 use Rattle.std.specs.shelf.Lists.{All}
-use Rattle.value.specs.Versions.{every, each, Version, weight}
+use Rattle.value.specs.Versions.{or, every, each, same, before, Version, weight}
 use Rattle.value.specs.Sorted.{sort}
 use Rattle.memtable.specs.Words.{bytes}
 use Rattle.memtable.specs.Arena.{version-at, encoded}
@@ -25,6 +25,10 @@ encode-all (v ∷ vs) = encoded v ++ encode-all vs
 
 unfoldable pub Stands : List ℕ → ℕ → Version → Type 0
 Stands ws p v = take (length (encoded v)) (drop p ws) ≡ encoded v
+
+-- does a version come before a key at a moment, in the order of a table: has it a lower key, or this key and this moment or a later one?
+abbrev pub goes-before : List ℕ → ℕ → Version → Bool
+goes-before k s v = or (before (v .key) k) (same (v .key) k && leb s (v .moment))
 
 pub record Holds (index arena : List ℕ) (t : Memtable) (vs : List Version) : Type 0 where
   pub counted : t .versions ≡ length vs
