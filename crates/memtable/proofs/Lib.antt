@@ -5,3 +5,4 @@ pub mod PackLaws
 pub mod KeyOrderLaws
 pub mod ReadLaws
 pub mod SearchLaws
+pub mod HeldLaws

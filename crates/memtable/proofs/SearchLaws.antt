@@ -69,7 +69,7 @@ comes-goes k s u w c g = go (or-cases (before (u .key) (w .key)) _ c) (or-cases 
         let e : same (u .key) k ≡ true = ap (λ x. same x k) a ∙ and-left-of (same (w .key) k) _ q in
         rw (e, le-leb s (u .moment) (omega arith)) (or-true-right (before (u .key) k))
 
-every-getD : (f : Version → Bool) (us : List Version) (i : ℕ) (d : Version) → i < length us → every f us ≡ true → f (getD us i d) ≡ true
+pub every-getD : (f : Version → Bool) (us : List Version) (i : ℕ) (d : Version) → i < length us → every f us ≡ true → f (getD us i d) ≡ true
 unfolding every
 every-getD f [] i d h e = absurd (omega arith)
 every-getD f (u ∷ us) zero d h e = and-left-of (f u) (every f us) e
