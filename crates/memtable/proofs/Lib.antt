@@ -6,3 +6,5 @@ pub mod KeyOrderLaws
 pub mod ReadLaws
 pub mod SearchLaws
 pub mod HeldLaws
+pub mod AnswerLaws
+pub mod InsertLaws
