@@ -139,3 +139,7 @@ arena-none t index arena v e = rw (← e) refl
 pub arena-whole : (t : Memtable) (index arena : List ℕ) (v : Version) → true ≡ accepts-it t index arena v → appended arena (t .used) v ≡ arena-after t index arena v
 unfolding arena-after
 arena-whole t index arena v e = rw (← e) refl
+
+pub accepts-room : (t : Memtable) (i a k v : ℕ) → accepts t i a k v ≡ true → has-room a (t .used) k v ≡ true
+unfolding accepts
+accepts-room t i a k v e = and-left-of (has-room a (t .used) k v) (ltb (t .versions) i && leb (t .weight + (64 + k + v)) 1048576) e
