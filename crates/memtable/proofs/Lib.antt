@@ -8,3 +8,4 @@ pub mod SearchLaws
 pub mod HeldLaws
 pub mod AnswerLaws
 pub mod InsertLaws
+pub mod SteadyLaws

@@ -15,7 +15,8 @@ use Rattle.value.specs.Rising.{rising}
 use Rattle.value.specs.Order.{Order-says}
 use Rattle.value.specs.Sorted.{sort, seek}
 use Rattle.memtable.specs.Words.{bytes}
-use Rattle.memtable.specs.Arena.{version-at, encoded, order-at}
+use Rattle.memtable.specs.Arena.{version-at, encoded, appended, order-at}
+use Rattle.memtable.specs.Index.{entered}
 use Rattle.memtable.specs.Memtable.{none, accepts-it, seek-place, found, written-at, table-after, index-after, arena-after}
 use Rattle.memtable.specs.declared.memtable.Memtable.{Memtable}
 
@@ -105,9 +106,19 @@ Seek-right =
     × (drop (seek-place t index arena k s) (sort vs) ≡ those (λ v. not (goes-before k s v)) (sort vs))
     × (every (λ v. ltb (v .moment) s) vs ≡ true → drop (seek-place t index arena k s) (sort vs) ≡ seek k (sort vs))
 
--- On any words an insertion keeps how many there are, and that they have 64 bits.
-abbrev pub Words-kept : Type 0
-Words-kept =
+-- On any words a write keeps how many there are, and that they have 64 bits.
+abbrev pub Append-keeps : Type 0
+Append-keeps =
+    (arena : List ℕ) (used : ℕ) (v : Version) →
+    (length (appended arena used v) ≡ length arena) × (small arena ≡ true → small (appended arena used v) ≡ true)
+
+abbrev pub Enter-keeps : Type 0
+Enter-keeps =
+    (index : List ℕ) (n at p : ℕ) →
+    (length (entered index n at p) ≡ length index) × (p < 18446744073709551616 → small index ≡ true → small (entered index n at p) ≡ true)
+
+abbrev pub Insert-keeps : Type 0
+Insert-keeps =
     (index arena : List ℕ) (t : Memtable) (v : Version) →
     (length (index-after t index arena v) ≡ length index)
     × (length (arena-after t index arena v) ≡ length arena)

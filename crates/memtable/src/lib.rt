@@ -1,6 +1,7 @@
 // What is in memory: versions of keys in two lent rows of words, an arena in the order in which they came and an index in the order of a table.
 mod arena;
 mod index;
+mod laws;
 mod memtable;
 mod words;
 
@@ -17,5 +18,16 @@ pub use arena::value_into;
 pub use arena::value_len;
 pub use index::enter;
 pub use index::place_at;
+pub use laws::append_keeps;
+pub use laws::empty_holds_none;
+pub use laws::enter_keeps;
+pub use laws::find_is_latest;
+pub use laws::insert_holds_more;
+pub use laws::insert_keeps;
+pub use laws::room_is_weight;
+pub use laws::seek_parts;
+pub use laws::sizes_suffice;
+pub use laws::walk_is_sorted;
+pub use laws::written_is_any;
 pub use memtable::Memtable;
 pub use memtable::empty;
