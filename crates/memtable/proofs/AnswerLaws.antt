@@ -32,15 +32,15 @@ use Rattle.memtable.proofs.HeldLaws.{sized, counts, there, order-there, seek-i
 pub empty-right : Empty-right
 unfolding encode-all sort each every added-up
 empty-right index arena = record {
-      counted = refl;
-      weighed = refl;
-      ended = refl;
-      filled = refl;
-      sorted = refl;
-      stand = tt;
-      fit = refl;
-      light = omega arith
-    }
+  counted = refl;
+  weighed = refl;
+  ended = refl;
+  filled = refl;
+  sorted = refl;
+  stand = tt;
+  fit = refl;
+  light = omega arith;
+}
 
 pub sizes-suffice : Sizes-suffice
 sizes-suffice vs f w = let s = sized vs f in (omega (arith, s .count), omega (arith, s .used))
@@ -73,16 +73,17 @@ find-right index arena t vs k s h r b =
     let e : seek-place t index arena k s ≡ i = seek-is index arena t vs k s h r b in
     let done : first-of k (drop i (sort vs)) ≡ latest vs k s = lookup-first (sort vs) k s ∙ lookup-right vs k s .1 in
     rw (e, c .entered) (elim (cases-lt i (t .versions)) [
-      inr l ↦ rw (le-ltb i (t .versions) l) (sym (ap (first-of k) (drop-all i (sort vs) (omega (arith, c .sorted)))) ∙ done)
-    | inl l ↦
-        let x = there index arena t vs h i l in
-        let d : Version = version-at arena 0 in
-        rw (lt-ltb i (t .versions) l) (
+      | inr l ↦ rw (le-ltb i (t .versions) l) (sym (ap (first-of k) (drop-all i (sort vs) (omega (arith, c .sorted)))) ∙ done)
+      | inl l ↦
+          let x = there index arena t vs h i l in
+          let d : Version = version-at arena 0 in
+          rw (lt-ltb i (t .versions) l) (
           ap (λ o. each (version-at arena) (as-list (if-same o (getD index i 0)))) (order-there index arena t vs k h b i l)
           ∙ same-found k (version-at arena (getD index i 0)) arena (getD index i 0) (drop (i + 1) (sort vs)) refl
           ∙ ap (λ w. first-of k (w ∷ drop (i + 1) (sort vs))) (sym (x .nth d))
           ∙ ap (first-of k) (sym (drop-more (sort vs) i d (omega (arith, c .sorted))))
-          ∙ done) ])
+          ∙ done)
+    ])
 
 pub written-right : Written-right
 unfolding written-at version-at
@@ -91,7 +92,7 @@ written-right index arena t vs k m h r b =
     let d : Version = version-at arena 0 in
     let e = seek-is index arena t vs k m h r b in
     let all : last-at k m (sort vs) (stretch (goes-before k m) (sort vs)) d ≡ any (λ v. same (v .key) k && eqb (v .moment) m) vs =
-          any-last k m (sort vs) d (sort-orders vs r) ∙ sort-any (is-at k m) vs in
+    any-last k m (sort vs) d (sort-orders vs r) ∙ sort-any (is-at k m) vs in
     rw e (go (stretch (goes-before k m) (sort vs)) (omega (arith, c .sorted, stretch-within (goes-before k m) (sort vs))) all)
   where
     go : (i : ℕ) → i ≤ t .versions → last-at k m (sort vs) i (version-at arena 0) ≡ any (λ v. same (v .key) k && eqb (v .moment) m) vs →
@@ -102,19 +103,20 @@ written-right index arena t vs k m h r b =
         let n : eqb (suc i) 0 ≡ false = ne-eqb (suc i) 0 (omega arith) in
         let x = there index arena t vs h i (omega arith) in
         rw (n, z) (
-          ap (λ o. at-moment o (moment-at arena (getD index i 0)) m) (order-there index arena t vs k h b i (omega arith))
-          ∙ same-moment k m (version-at arena (getD index i 0))
-          ∙ ap (is-at k m) (sym (x .nth (version-at arena 0)))
-          ∙ a)
+        ap (λ o. at-moment o (moment-at arena (getD index i 0)) m) (order-there index arena t vs k h b i (omega arith))
+        ∙ same-moment k m (version-at arena (getD index i 0))
+        ∙ ap (is-at k m) (sym (x .nth (version-at arena 0)))
+        ∙ a)
 
 pub walk-right : Walk-right
 unfolding Order-says ordered
 walk-right index arena t vs i h l =
     let c = counts index arena t vs h in
     let x = there index arena t vs h i l in
-    let d : Version = version-at arena 0 in
-    ( drop-more (sort vs) i d (omega (arith, c .sorted)) ∙ ap₂ (λ w us. w ∷ us) (x .nth d) (ap (λ j. drop j (sort vs)) (add-one i))
-    , λ k b. order-says (version-at arena (getD index i 0) .key) k (order-at arena (getD index i 0) k) (order-there index arena t vs k h b i l) )
+    let d : Version = version-at arena 0 in (
+      drop-more (sort vs) i d (omega (arith, c .sorted)) ∙ ap₂ (λ w us. w ∷ us) (x .nth d) (ap (λ j. drop j (sort vs)) (add-one i)),
+      λ k b. order-says (version-at arena (getD index i 0) .key) k (order-at arena (getD index i 0) k) (order-there index arena t vs k h b i l),
+    )
   where
     order-says : (a b : List ℕ) (o : Reply) → o ≡ ordered a b → Order-says a b o
     order-says a b o e = e
@@ -122,7 +124,8 @@ walk-right index arena t vs i h l =
 pub seek-right : Seek-right
 seek-right index arena t vs k s h r b =
     let e = seek-is index arena t vs k s h r b in
-    let p = seek-parts k s (sort vs) (sort-orders vs r) in
-    ( ap (λ i. take i (sort vs)) e ∙ p .0
-    , ap (λ i. drop i (sort vs)) e ∙ p .1
-    , λ m. ap (λ i. drop i (sort vs)) e ∙ seek-key k s (sort vs) (sort-every (λ v. ltb (v .moment) s) vs ∙ m) )
+    let p = seek-parts k s (sort vs) (sort-orders vs r) in (
+      ap (λ i. take i (sort vs)) e ∙ p .0,
+      ap (λ i. drop i (sort vs)) e ∙ p .1,
+      λ m. ap (λ i. drop i (sort vs)) e ∙ seek-key k s (sort vs) (sort-every (λ v. ltb (v .moment) s) vs ∙ m),
+    )

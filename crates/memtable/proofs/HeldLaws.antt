@@ -73,9 +73,10 @@ counts index arena t vs h =
       all = a;
       sorted = s ∙ sym (h .counted);
       entered = elim (cases-lt (t .versions) (length index)) [
-          inl l ↦ rw (lt-ltb (t .versions) (length index) l) refl
-        | inr l ↦ rw (le-ltb (t .versions) (length index) l) (omega arith) ];
-      few = omega (arith, h .counted, h .light, z .count)
+        | inl l ↦ rw (lt-ltb (t .versions) (length index) l) refl
+        | inr l ↦ rw (le-ltb (t .versions) (length index) l) (omega arith)
+      ];
+      few = omega (arith, h .counted, h .light, z .count);
     }
 
 -- place i of the index
@@ -90,14 +91,14 @@ there index arena t vs h i l =
     let p : getD (take (t .versions) index) i 0 ≡ getD index i 0 = getD-take (t .versions) index i 0 l in
     let m : i < length (take (t .versions) index) = omega (arith, c .all) in
     let n : (d : Version) → getD (sort vs) i d ≡ version-at arena (getD index i 0) =
-          λ d. ap (λ us. getD us i d) (sym (h .sorted)) ∙ getD-each (version-at arena) (take (t .versions) index) i 0 d m ∙ ap (version-at arena) p in
+    λ d. ap (λ us. getD us i d) (sym (h .sorted)) ∙ getD-each (version-at arena) (take (t .versions) index) i 0 d m ∙ ap (version-at arena) p in
     let d : Version = version-at arena 0 in
     record {
       stands = subst (λ q. Stands (take (t .used) arena) q (version-at arena q)) p
           (all-getD (λ q. Stands (take (t .used) arena) q (version-at arena q)) (take (t .versions) index) i 0 m (h .stand));
       fit = ap fits (sym (n (version-at arena 0)))
           ∙ every-getD fits (sort vs) i (version-at arena 0) (omega (arith, c .sorted)) (sort-every fits vs ∙ h .fit);
-      nth = n
+      nth = n;
     }
 
 -- the order of a key there
@@ -126,10 +127,10 @@ seek-is index arena t vs k s h r b =
     let o = sort-orders vs r in
     let test : (i : ℕ) → i < t .versions → ahead-at index arena k s i ≡ goes-before k s (getD (sort vs) i d) = λ i l. ahead-there index arena t vs k s d h b i l in
     let p : Parts (ahead-at index arena k s) (t .versions) (bisect (ahead-at index arena k s) 64 0 (t .versions)) =
-          bisect-parts (ahead-at index arena k s) (t .versions)
-            (λ i j g l e. test i (omega arith) ∙ goes-falls k s (sort vs) d o i j g (omega (arith, c .sorted)) (sym (test j l) ∙ e))
-            64 0 (t .versions) (omega arith) (omega arith) (omega (arith, c .few)) (λ i l. absurd (omega arith)) (λ i g l. absurd (omega arith)) in
+    bisect-parts (ahead-at index arena k s) (t .versions)
+    (λ i j g l e. test i (omega arith) ∙ goes-falls k s (sort vs) d o i j g (omega (arith, c .sorted)) (sym (test j l) ∙ e))
+    64 0 (t .versions) (omega arith) (omega arith) (omega (arith, c .few)) (λ i l. absurd (omega arith)) (λ i g l. absurd (omega arith)) in
     ap (bisect (ahead-at index arena k s) 64 0) (c .entered)
     ∙ stretch-is (goes-before k s) (sort vs) (bisect (ahead-at index arena k s) 64 0 (t .versions)) d (omega (arith, c .sorted, p .within))
-        (λ i l. sym (test i (omega (arith, p .within))) ∙ p .low i l)
-        (λ i g l. sym (test i (omega (arith, c .sorted))) ∙ p .high i g (omega (arith, c .sorted)))
+    (λ i l. sym (test i (omega (arith, p .within))) ∙ p .low i l)
+    (λ i g l. sym (test i (omega (arith, c .sorted))) ∙ p .high i g (omega (arith, c .sorted)))

@@ -83,7 +83,7 @@ unfolding Stands
 stands-more ws xs p v s =
     let n = ap length s in
     let m : (p ≤ length ws) × (length (encoded v) ≤ length (drop p ws)) =
-          (omega (arith, length-encoded v, length-take (length (encoded v)) (drop p ws), length-drop p ws), omega (arith, length-take (length (encoded v)) (drop p ws))) in
+    (omega (arith, length-encoded v, length-take (length (encoded v)) (drop p ws), length-drop p ws), omega (arith, length-take (length (encoded v)) (drop p ws))) in
     ap (take (length (encoded v))) (drop-append-le p ws xs (m .0)) ∙ take-append-le (length (encoded v)) (drop p ws) xs (m .1) ∙ s
 
 stands-last : (ws : List ℕ) (v : Version) (p : ℕ) → length ws ≡ p → Stands (ws ++ encoded v) p v
@@ -100,8 +100,8 @@ moved-front index n at p h l =
     let b : drop at (take n index) ≡ take (n - at) (drop at index) = ap (λ k. drop at (take k index)) (sym e) ∙ drop-take at (n - at) index in
     let x : List ℕ = take at index ++ (p ∷ take (n - at) (drop at index)) in
     let m : length x ≡ n + 1 =
-          length-append (take at index) (p ∷ take (n - at) (drop at index))
-          ∙ omega (arith, length-take at index, length-take (n - at) (drop at index), length-drop at index) in
+    length-append (take at index) (p ∷ take (n - at) (drop at index))
+    ∙ omega (arith, length-take at index, length-take (n - at) (drop at index), length-drop at index) in
     ap (take (n + 1)) (sym (append-assoc (take at index) (p ∷ take (n - at) (drop at index)) (drop (n + 1) index)))
     ∙ take-at x (drop (n + 1) index) (n + 1) m
     ∙ ap₂ (λ u w. u ++ (p ∷ w)) (sym a) (sym b)
@@ -144,15 +144,15 @@ held-more index arena t vs v at h f r x e w =
     let ended : u ≡ length (encode-all vs) = h .ended in
     let long : length old ≡ u = ap length (h .filled) ∙ sym ended in
     let more : (p : ℕ) → Stands old p (version-at arena p) → fits (version-at arena p) ≡ true → Stands (take u₁ arena₁) p (version-at arena p) =
-          λ p s g. subst (λ ws. Stands ws p (version-at arena p)) (sym front) (stands-more old (encoded v) p (version-at arena p) s) in
+    λ p s g. subst (λ ws. Stands ws p (version-at arena p)) (sym front) (stands-more old (encoded v) p (version-at arena p) s) in
     let alike : (p : ℕ) → Stands old p (version-at arena p) → fits (version-at arena p) ≡ true → version-at arena₁ p ≡ version-at arena p =
-          λ p s g. version-read arena₁ u₁ p (version-at arena p) g (more p s g) in
+    λ p s g. version-read arena₁ u₁ p (version-at arena p) g (more p s g) in
     let fit : every fits (each (version-at arena) places) ≡ true = ap (every fits) (h .sorted) ∙ sort-every fits vs ∙ h .fit in
     let same-all : All (λ p. version-at arena₁ p ≡ version-at arena p) places =
-          all-read (λ p. Stands old p (version-at arena p)) (λ p. version-at arena₁ p ≡ version-at arena p) (version-at arena) fits places alike (h .stand) fit in
+    all-read (λ p. Stands old p (version-at arena p)) (λ p. version-at arena₁ p ≡ version-at arena p) (version-at arena) fits places alike (h .stand) fit in
     let stand-all : All (λ p. Stands (take u₁ arena₁) p (version-at arena₁ p)) places =
-          all-read (λ p. Stands old p (version-at arena p)) (λ p. Stands (take u₁ arena₁) p (version-at arena₁ p)) (version-at arena) fits places
-            (λ p s g. subst (Stands (take u₁ arena₁) p) (sym (alike p s g)) (more p s g)) (h .stand) fit in
+    all-read (λ p. Stands old p (version-at arena p)) (λ p. Stands (take u₁ arena₁) p (version-at arena₁ p)) (version-at arena) fits places
+    (λ p s g. subst (Stands (take u₁ arena₁) p) (sym (alike p s g)) (more p s g)) (h .stand) fit in
     let there : Stands (take u₁ arena₁) u v = subst (λ ws. Stands ws u v) (sym front) (stands-last old v u long) in
     let new : version-at arena₁ u ≡ v = version-read arena₁ u₁ u v f there in
     let us : each (version-at arena₁) places ≡ sort vs = each-like (version-at arena₁) (version-at arena) places same-all ∙ h .sorted in
@@ -166,16 +166,16 @@ held-more index arena t vs v at h f r x e w =
           ap (each (version-at arena₁)) moved-is
           ∙ each-append (version-at arena₁) (take at places) (u ∷ drop at places)
           ∙ ap₂ _++_ (each-take (version-at arena₁) at places ∙ ap (take at) us)
-              (each-cons (version-at arena₁) u (drop at places) ∙ ap₂ _∷_ new (each-drop (version-at arena₁) at places ∙ ap (drop at) us))
+          (each-cons (version-at arena₁) u (drop at places) ∙ ap₂ _∷_ new (each-drop (version-at arena₁) at places ∙ ap (drop at) us))
           ∙ ap (λ k. take k (sort vs) ++ (v ∷ drop k (sort vs))) e
           ∙ sym (insert-there v (sort vs) (sort-every (newer v) vs ∙ rising-newer vs v r))
           ∙ sym (push-right vs v);
       stand = subst (All (λ p. Stands (take u₁ arena₁) p (version-at arena₁ p))) (sym moved-is)
           (all-append (λ p. Stands (take u₁ arena₁) p (version-at arena₁ p)) (take at places) (u ∷ drop at places)
-            (all-take (λ p. Stands (take u₁ arena₁) p (version-at arena₁ p)) at places stand-all)
-            (subst (Stands (take u₁ arena₁) u) (sym new) there, all-drop (λ p. Stands (take u₁ arena₁) p (version-at arena₁ p)) at places stand-all));
+          (all-take (λ p. Stands (take u₁ arena₁) p (version-at arena₁ p)) at places stand-all)
+          (subst (Stands (take u₁ arena₁) u) (sym new) there, all-drop (λ p. Stands (take u₁ arena₁) p (version-at arena₁ p)) at places stand-all));
       fit = every-append fits vs (v ∷ []) (h .fit) (every-one fits v f);
-      light = omega (arith, weight-push vs v, h .weighed, x .weight)
+      light = omega (arith, weight-push vs v, h .weighed, x .weight);
     }
 
 pub insert-right : Insert-right
@@ -188,8 +188,8 @@ insert-right index arena t vs v h f r a =
     let s : seek-place t index arena (v .key) (v .moment) ≡ at = seek-is index arena t vs (v .key) (v .moment) h (rising-front vs v r) (b .key-bytes) in
     let done = held-more index arena t vs v at h f r x refl w in
     subst (λ i. Holds i (arena-after t index arena v) (table-after t index arena v) (vs ++ v ∷ [])) (sym (index-is t index arena v at a s w))
-      (subst (λ y. Holds (moved index (t .versions) at (t .used)) y (table-after t index arena v) (vs ++ v ∷ [])) (sym (arena-is t index arena v a))
-        (subst (λ y. Holds (moved index (t .versions) at (t .used)) (put-row arena (t .used) (encoded v)) y (vs ++ v ∷ [])) (sym (table-is t index arena v a)) done))
+    (subst (λ y. Holds (moved index (t .versions) at (t .used)) y (table-after t index arena v) (vs ++ v ∷ [])) (sym (arena-is t index arena v a))
+    (subst (λ y. Holds (moved index (t .versions) at (t .used)) (put-row arena (t .used) (encoded v)) y (vs ++ v ∷ [])) (sym (table-is t index arena v a)) done))
 
 -- ROOM for all that does not pass the weight
 pub room-right : Room-right
@@ -200,16 +200,20 @@ room-right index arena t vs v h f p q =
     let s = sized (vs ++ v ∷ []) g in
     let n = length-push vs v in
     let l : length (encode-all (vs ++ v ∷ [])) ≡ t .used + size (length (v .key)) (length (v .value)) =
-          ap length (encode-push vs v) ∙ length-append (encode-all vs) (encoded v) ∙ omega (arith, h .ended, length-encoded v) in
+    ap length (encode-push vs v) ∙ length-append (encode-all vs) (encoded v) ∙ omega (arith, h .ended, length-encoded v) in
     let w : t .weight + (64 + length (v .key) + length (v .value)) ≡ weight (vs ++ v ∷ []) = omega (arith, h .weighed, weight-push vs v) in
-    rw w (go (weight (vs ++ v ∷ []) ) (λ m. (
-      le-leb 1 (length (v .key)) (b .one), le-leb (length (v .key)) 255 (b .key-long), le-leb (length (v .value)) 1024 (b .value-long),
+    rw w (go (weight (vs ++ v ∷ [])) (λ m. (
+      le-leb 1 (length (v .key)) (b .one),
+      le-leb (length (v .key)) 255 (b .key-long),
+      le-leb (length (v .value)) 1024 (b .value-long),
       le-leb (t .used + size (length (v .key)) (length (v .value))) (length arena) (omega (arith, s .used, l)),
-      lt-ltb (t .versions) (length index) (omega (arith, h .counted, s .count, n)))))
+      lt-ltb (t .versions) (length index) (omega (arith, h .counted, s .count, n)),
+    )))
   where
     go : (m : ℕ) → (m ≤ 1048576 → (leb 1 (length (v .key)) ≡ true) × (leb (length (v .key)) 255 ≡ true) × (leb (length (v .value)) 1024 ≡ true)
         × (leb (t .used + size (length (v .key)) (length (v .value))) (length arena) ≡ true) × (ltb (t .versions) (length index) ≡ true)) →
         (has-room (length arena) (t .used) (length (v .key)) (length (v .value)) && (ltb (t .versions) (length index) && leb m 1048576)) ≡ leb m 1048576
     go m y = elim (cases-lt 1048576 m) [
-          inl l ↦ rw (lt-leb m 1048576 l, and-false-right (ltb (t .versions) (length index))) (and-false-right _)
-        | inr l ↦ let z = y l in rw (z .0, z .1, z .2, z .3, z .4) refl ]
+      | inl l ↦ rw (lt-leb m 1048576 l, and-false-right (ltb (t .versions) (length index))) (and-false-right _)
+      | inr l ↦ let z = y l in rw (z .0, z .1, z .2, z .3, z .4) refl
+    ]

@@ -66,9 +66,9 @@ bytes-order (x ∷ xs) (y ∷ ys) n h =
     let ih = bytes-order xs ys (s .0) (s .2) in
     ap (λ m. compare (λ i. getD (x ∷ xs) i 0) (λ i. getD (y ∷ ys) i 0) m 0 (by-length (suc (length xs)) (suc (length ys)))) (s .1)
     ∙ ap (three x y) (
-        shift (λ i. getD (x ∷ xs) i 0) (λ i. getD (y ∷ ys) i 0) (s .0) 0 (by-length (suc (length xs)) (suc (length ys)))
-        ∙ ap (compare (λ i. getD xs i 0) (λ i. getD ys i 0) (s .0) 0) (lengths-suc (length xs) (length ys))
-        ∙ ih)
+    shift (λ i. getD (x ∷ xs) i 0) (λ i. getD (y ∷ ys) i 0) (s .0) 0 (by-length (suc (length xs)) (suc (length ys)))
+    ∙ ap (compare (λ i. getD xs i 0) (λ i. getD ys i 0) (s .0) 0) (lengths-suc (length xs) (length ys))
+    ∙ ih)
     ∙ ordered-step x y xs ys
 
 pub words-order : (a b : List ℕ) → bytes a ≡ true → bytes b ≡ true →
@@ -76,5 +76,5 @@ pub words-order : (a b : List ℕ) → bytes a ≡ true → bytes b ≡ true →
 words-order a b p q =
     sym (words-bytes a b (words (smaller (length a) (length b))) 0 (by-length (length a) (length b)))
     ∙ compare-like (octet a) (octet b) (λ i. getD a i 0) (λ i. getD b i 0) (8 * words (smaller (length a) (length b))) 0 (by-length (length a) (length b))
-        (λ i h l. octet-is a i p) (λ i h l. octet-is b i q)
+    (λ i h l. octet-is a i p) (λ i h l. octet-is b i q)
     ∙ bytes-order a b (8 * words (smaller (length a) (length b))) (omega arith)

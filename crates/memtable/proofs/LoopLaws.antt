@@ -74,9 +74,11 @@ bisect-parts p n mono zero low high a b c below above = record { within = omega 
 bisect-parts p n mono (suc rounds) low high a b c below above =
     let e = pow-suc 2 rounds in
     elim (cases-lt low high) [
-      inr g ↦ rw (le-ltb low high g) (record { within = omega arith; low = below; high = λ k j h. above k (omega arith) h })
-    | inl g ↦ rw (lt-ltb low high g) (elim (cases-bool (p (middle low high))) [
-        inl t ↦ rw t (bisect-parts p n mono rounds (middle low high + 1) high (omega arith) b (omega arith)
+      | inr g ↦ rw (le-ltb low high g) (record { within = omega arith; low = below; high = λ k j h. above k (omega arith) h })
+      | inl g ↦ rw (lt-ltb low high g) (elim (cases-bool (p (middle low high))) [
+        | inl t ↦ rw t (bisect-parts p n mono rounds (middle low high + 1) high (omega arith) b (omega arith)
             (λ k h. mono k (middle low high) (omega arith) (omega arith) t) above)
-      | inr f ↦ rw f (bisect-parts p n mono rounds low (middle low high) (omega arith) (omega arith) (omega arith) below
-            (λ k h l. falls p n mono (middle low high) k h l f)) ]) ]
+        | inr f ↦ rw f (bisect-parts p n mono rounds low (middle low high) (omega arith) (omega arith) (omega arith) below
+            (λ k h l. falls p n mono (middle low high) k h l f))
+      ])
+    ]

@@ -55,7 +55,7 @@ octet-below bs i = omega arith
 byte-of-word : (bs : List ℕ) (k j : ℕ) → j < 8 → byte (word bs k) j ≡ octet bs (k + j)
 byte-of-word bs k j h =
     byte-word _ _ _ _ _ _ _ _ j (octet-below bs k) (octet-below bs (k + 1)) (octet-below bs (k + 2)) (octet-below bs (k + 3)) (octet-below bs (k + 4))
-        (octet-below bs (k + 5)) (octet-below bs (k + 6)) (octet-below bs (k + 7)) h
+    (octet-below bs (k + 5)) (octet-below bs (k + 6)) (octet-below bs (k + 7)) h
     ∙ eight bs k j h
 
 pub octet-is : (bs : List ℕ) (i : ℕ) → bytes bs ≡ true → octet bs i ≡ getD bs i 0
@@ -70,13 +70,13 @@ pub row-packed : (ws bs : List ℕ) (p s n : ℕ) → bytes bs ≡ true → leng
 unfolding byte-behind packed-word
 row-packed ws bs p s n h l f =
     ext-getD 0 (row ws p s n) bs (length-row ws p s n ∙ sym l) (λ i m.
-      let q : i < n = omega (arith, length-row ws p s n) in
-      let e : 8 * (i / 8) + i % 8 ≡ i = omega arith in
-      getD-row ws p s n i q
-      ∙ ap (λ w. byte w (i % 8)) (f (i / 8) (omega arith))
-      ∙ byte-of-word bs (8 * (i / 8)) (i % 8) (omega arith)
-      ∙ ap (octet bs) e
-      ∙ octet-is bs i h)
+    let q : i < n = omega (arith, length-row ws p s n) in
+    let e : 8 * (i / 8) + i % 8 ≡ i = omega arith in
+    getD-row ws p s n i q
+    ∙ ap (λ w. byte w (i % 8)) (f (i / 8) (omega arith))
+    ∙ byte-of-word bs (8 * (i / 8)) (i % 8) (omega arith)
+    ∙ ap (octet bs) e
+    ∙ octet-is bs i h)
 
 -- TWO WORDS compare as their bytes do
 abbrev pub three : ℕ → ℕ → Reply → Reply
@@ -96,20 +96,24 @@ digit-less x y p a b h l = omega (arith, mul-le-mul-right p h, add-mul x 1 p)
 
 digit : (x y p a b : ℕ) (r : Reply) → a < p → b < p → three x y (three a b r) ≡ three (x * p + a) (y * p + b) r
 digit x y p a b r h l = elim (cases-order x y) [
-      inl e ↦ three-same x y (three a b r) e ∙ elim (cases-order a b) [
-          inl f ↦ three-same a b r f ∙ sym (three-same (x * p + a) (y * p + b) r (ap₂ (λ u v. u * p + v) e f))
-        | inr o ↦ elim o [
-            inl f ↦ three-less a b r f ∙ sym (three-less (x * p + a) (y * p + b) r (omega (arith, ap (λ u. u * p) e)))
-          | inr f ↦ three-more a b r f ∙ sym (three-more (x * p + a) (y * p + b) r (omega (arith, ap (λ u. u * p) e))) ] ]
+  | inl e ↦ three-same x y (three a b r) e ∙ elim (cases-order a b) [
+    | inl f ↦ three-same a b r f ∙ sym (three-same (x * p + a) (y * p + b) r (ap₂ (λ u v. u * p + v) e f))
     | inr o ↦ elim o [
-        inl f ↦ three-less x y (three a b r) f ∙ sym (three-less (x * p + a) (y * p + b) r (digit-less x y p a b f h))
-      | inr f ↦ three-more x y (three a b r) f ∙ sym (three-more (x * p + a) (y * p + b) r (digit-less y x p b a f l)) ] ]
+      | inl f ↦ three-less a b r f ∙ sym (three-less (x * p + a) (y * p + b) r (omega (arith, ap (λ u. u * p) e)))
+      | inr f ↦ three-more a b r f ∙ sym (three-more (x * p + a) (y * p + b) r (omega (arith, ap (λ u. u * p) e)))
+    ]
+  ]
+  | inr o ↦ elim o [
+    | inl f ↦ three-less x y (three a b r) f ∙ sym (three-less (x * p + a) (y * p + b) r (digit-less x y p a b f h))
+    | inr f ↦ three-more x y (three a b r) f ∙ sym (three-more (x * p + a) (y * p + b) r (digit-less y x p b a f l))
+  ]
+]
 
 two-words : (a b c d e f g h a₁ b₁ c₁ d₁ e₁ f₁ g₁ h₁ : ℕ) (r : Reply) →
     b < 256 → c < 256 → d < 256 → e < 256 → f < 256 → g < 256 → h < 256 → b₁ < 256 → c₁ < 256 → d₁ < 256 → e₁ < 256 → f₁ < 256 → g₁ < 256 → h₁ < 256 →
     three a a₁ (three b b₁ (three c c₁ (three d d₁ (three e e₁ (three f f₁ (three g g₁ (three h h₁ r))))))) ≡
     three (a * 72057594037927936 + b * 281474976710656 + c * 1099511627776 + d * 4294967296 + e * 16777216 + f * 65536 + g * 256 + h)
-        (a₁ * 72057594037927936 + b₁ * 281474976710656 + c₁ * 1099511627776 + d₁ * 4294967296 + e₁ * 16777216 + f₁ * 65536 + g₁ * 256 + h₁) r
+    (a₁ * 72057594037927936 + b₁ * 281474976710656 + c₁ * 1099511627776 + d₁ * 4294967296 + e₁ * 16777216 + f₁ * 65536 + g₁ * 256 + h₁) r
 two-words a b c d e f g h a₁ b₁ c₁ d₁ e₁ f₁ g₁ h₁ r p₁ p₂ p₃ p₄ p₅ p₆ p₇ q₁ q₂ q₃ q₄ q₅ q₆ q₇ =
     let g₂ : ℕ = g * 256 + h in let g₃ : ℕ = g₁ * 256 + h₁ in
     let f₂ : ℕ = f * 65536 + g₂ in let f₃ : ℕ = f₁ * 65536 + g₃ in
@@ -154,7 +158,7 @@ words-bytes a b (suc n) k tie =
     let i₇ : 8 * k + 6 + 1 ≡ 8 * k + 7 = omega arith in
     let i₈ : 8 * k + 7 + 1 ≡ 8 * (k + 1) = omega arith in
     rw m (simp (i₂, i₃, i₄, i₅, i₆, i₇, i₈) (
-      two-words _ _ _ _ _ _ _ _ _ _ _ _ _ _ _ _ (compare (octet a) (octet b) (8 * n) (8 * (k + 1)) tie)
-        (octet-below a (8 * k + 1)) (octet-below a (8 * k + 2)) (octet-below a (8 * k + 3)) (octet-below a (8 * k + 4)) (octet-below a (8 * k + 5)) (octet-below a (8 * k + 6)) (octet-below a (8 * k + 7))
-        (octet-below b (8 * k + 1)) (octet-below b (8 * k + 2)) (octet-below b (8 * k + 3)) (octet-below b (8 * k + 4)) (octet-below b (8 * k + 5)) (octet-below b (8 * k + 6)) (octet-below b (8 * k + 7))
-      ∙ ap (three (word a (8 * k)) (word b (8 * k))) ih))
+    two-words _ _ _ _ _ _ _ _ _ _ _ _ _ _ _ _ (compare (octet a) (octet b) (8 * n) (8 * (k + 1)) tie)
+    (octet-below a (8 * k + 1)) (octet-below a (8 * k + 2)) (octet-below a (8 * k + 3)) (octet-below a (8 * k + 4)) (octet-below a (8 * k + 5)) (octet-below a (8 * k + 6)) (octet-below a (8 * k + 7))
+    (octet-below b (8 * k + 1)) (octet-below b (8 * k + 2)) (octet-below b (8 * k + 3)) (octet-below b (8 * k + 4)) (octet-below b (8 * k + 5)) (octet-below b (8 * k + 6)) (octet-below b (8 * k + 7))
+    ∙ ap (three (word a (8 * k)) (word b (8 * k))) ih))

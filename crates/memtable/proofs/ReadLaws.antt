@@ -32,9 +32,9 @@ pub fits-parts : (v : Version) → fits v ≡ true → Fits v
 unfolding fits
 fits-parts v e =
     let l = and-left-of (leb 1 (length (v .key)) && (leb (length (v .key)) 255 && leb (length (v .value)) 1024))
-          ((bytes (v .key) && bytes (v .value)) && ltb (v .moment) 18446744073709551616) e in
+    ((bytes (v .key) && bytes (v .value)) && ltb (v .moment) 18446744073709551616) e in
     let r = and-right-of (leb 1 (length (v .key)) && (leb (length (v .key)) 255 && leb (length (v .value)) 1024))
-          ((bytes (v .key) && bytes (v .value)) && ltb (v .moment) 18446744073709551616) e in
+    ((bytes (v .key) && bytes (v .value)) && ltb (v .moment) 18446744073709551616) e in
     let m = and-right-of (leb 1 (length (v .key))) (leb (length (v .key)) 255 && leb (length (v .value)) 1024) l in
     let b = and-left-of (bytes (v .key) && bytes (v .value)) (ltb (v .moment) 18446744073709551616) r in
     record {
@@ -43,7 +43,7 @@ fits-parts v e =
       value-long = leb-true (length (v .value)) 1024 (and-right-of (leb (length (v .key)) 255) (leb (length (v .value)) 1024) m);
       key-bytes = and-left-of (bytes (v .key)) (bytes (v .value)) b;
       value-bytes = and-right-of (bytes (v .key)) (bytes (v .value)) b;
-      moment-small = ltb-true (v .moment) 18446744073709551616 (and-right-of (bytes (v .key) && bytes (v .value)) (ltb (v .moment) 18446744073709551616) r)
+      moment-small = ltb-true (v .moment) 18446744073709551616 (and-right-of (bytes (v .key) && bytes (v .value)) (ltb (v .moment) 18446744073709551616) r);
     }
 
 pub length-encoded : (v : Version) → length (encoded v) ≡ size (length (v .key)) (length (v .value))
@@ -117,7 +117,7 @@ reads arena u p v f s =
       value-length-is = ap (λ x. x / 256 % 4096) w ∙ value-measure (length (v .key)) (length (v .value)) (v .gone) (h .key-long) (h .value-long);
       gone-is = ap (λ x. eqb (x / 1048576 % 2) 1) w ∙ gone-measure (length (v .key)) (length (v .value)) (v .gone) (h .key-long) (h .value-long);
       key-words-are = λ k l. word-read arena u p v s (2 + k) (omega arith) ∙ key-words v k l;
-      value-words-are = λ k l. word-read arena u p v s (2 + words (length (v .key)) + k) (omega arith) ∙ value-words v k l
+      value-words-are = λ k l. word-read arena u p v s (2 + words (length (v .key)) + k) (omega arith) ∙ value-words v k l;
     }
 
 version-like : (k k₁ : List ℕ) (m m₁ : ℕ) (g g₁ : Bool) (w w₁ : List ℕ) → k ≡ k₁ → m ≡ m₁ → g ≡ g₁ → w ≡ w₁ → version k m g w ≡ version k₁ m₁ g₁ w₁
@@ -129,11 +129,11 @@ version-read arena u p v f s =
     let h = fits-parts v f in
     let r = reads arena u p v f s in
     version-like (key-at arena p) (v .key) (moment-at arena p) (v .moment) (gone-at arena p) (v .gone) (value-at arena p) (v .value)
-      (row-packed arena (v .key) p 2 (key-length arena p) (h .key-bytes) (sym (r .key-length-is)) (λ k l. r .key-words-are k (rw (r .key-length-is) at l)))
-      (r .moment)
-      (r .gone-is)
-      (row-packed arena (v .value) p (2 + words (key-length arena p)) (value-length arena p) (h .value-bytes) (sym (r .value-length-is))
-        (λ k l. ap (λ n. getD arena (p + (2 + words n + k)) 0) (r .key-length-is) ∙ r .value-words-are k (rw (r .value-length-is) at l)))
+    (row-packed arena (v .key) p 2 (key-length arena p) (h .key-bytes) (sym (r .key-length-is)) (λ k l. r .key-words-are k (rw (r .key-length-is) at l)))
+    (r .moment)
+    (r .gone-is)
+    (row-packed arena (v .value) p (2 + words (key-length arena p)) (value-length arena p) (h .value-bytes) (sym (r .value-length-is))
+    (λ k l. ap (λ n. getD arena (p + (2 + words n + k)) 0) (r .key-length-is) ∙ r .value-words-are k (rw (r .value-length-is) at l)))
 
 pub order-read : (arena : List ℕ) (u p : ℕ) (v : Version) (k : List ℕ) → fits v ≡ true → Stands (take u arena) p v → bytes k ≡ true → order-at arena p k ≡ ordered (v .key) k
 unfolding order-at key-word
@@ -142,7 +142,7 @@ order-read arena u p v k f s b =
     let r = reads arena u p v f s in
     ap (λ n. compare (key-word arena p) (packed-word k) (words (smaller n (length k))) 0 (by-length n (length k))) (r .key-length-is)
     ∙ compare-like (key-word arena p) (packed-word k) (packed-word (v .key)) (packed-word k) (words (smaller (length (v .key)) (length k))) 0 (by-length (length (v .key)) (length k))
-      (λ i g l. r .key-words-are i (smaller-words (length (v .key)) (length k) i l)) (λ i g l. refl)
+    (λ i g l. r .key-words-are i (smaller-words (length (v .key)) (length k) i l)) (λ i g l. refl)
     ∙ words-order (v .key) k (h .key-bytes) b
   where
     smaller-words : (a c i : ℕ) → i < 0 + words (smaller a c) → i < words a

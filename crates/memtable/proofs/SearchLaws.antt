@@ -99,8 +99,9 @@ lookup-first (u ∷ us) k s = go (order (u .key) k) (lookup-first us k s)
     at-key : (m : ℕ) (l : List Version) → same (u .key) k ≡ true → before (u .key) k ≡ false → first-of k (drop (stretch (goes-before k s) us) us) ≡ l →
         first-of k (drop (pick (leb s m) (suc (stretch (goes-before k s) us)) 0) (u ∷ us)) ≡ pick (ltb m s) (u ∷ []) l
     at-key m l e b ih = elim (cases-lt m s) [
-          inl h ↦ rw (lt-leb s m h, lt-ltb m s h, e) refl
-        | inr h ↦ rw (le-leb s m h, le-ltb m s h) ih ]
+      | inl h ↦ rw (lt-leb s m h, lt-ltb m s h, e) refl
+      | inr h ↦ rw (le-leb s m h, le-ltb m s h) ih
+    ]
 
     go : Order (u .key) k → first-of k (drop (stretch (goes-before k s) us) us) ≡ lookup-stop us k s →
         first-of k (drop (stretch (goes-before k s) (u ∷ us)) (u ∷ us)) ≡ lookup-stop (u ∷ us) k s
@@ -124,7 +125,7 @@ insert-there v (u ∷ us) h =
         insert-new v us ≡ take (stretch (goes-before (v .key) (v .moment)) us) us ++ (v ∷ drop (stretch (goes-before (v .key) (v .moment)) us) us) →
         pick a (u ∷ insert-new v us) (v ∷ u ∷ us) ≡
         take (pick (or a b) (suc (stretch (goes-before (v .key) (v .moment)) us)) 0) (u ∷ us)
-            ++ (v ∷ drop (pick (or a b) (suc (stretch (goes-before (v .key) (v .moment)) us)) 0) (u ∷ us))
+        ++ (v ∷ drop (pick (or a b) (suc (stretch (goes-before (v .key) (v .moment)) us)) 0) (u ∷ us))
     go true b e ih = ap (λ l. u ∷ l) ih
     go false b e ih = rw e refl
 
@@ -143,7 +144,7 @@ unfolding rising every
 rising-newer [] v h = refl
 rising-newer (u ∷ vs) v h =
     rw (newer-last v u (every-last (λ w. leb (u .moment) (w .moment) && not (same (u .key) (w .key) && eqb (u .moment) (w .moment))) vs v (and-left-of _ (rising (vs ++ v ∷ [])) h)))
-      (rising-newer vs v (and-right-of _ (rising (vs ++ v ∷ [])) h))
+    (rising-newer vs v (and-right-of _ (rising (vs ++ v ∷ [])) h))
   where
     every-last : (f : Version → Bool) (ws : List Version) (w : Version) → every f (ws ++ w ∷ []) ≡ true → f w ≡ true
     every-last f [] w e = and-left-of (f w) true e
@@ -154,7 +155,7 @@ unfolding rising every
 rising-front [] v h = refl
 rising-front (u ∷ vs) v h =
     rw (every-front (λ w. leb (u .moment) (w .moment) && not (same (u .key) (w .key) && eqb (u .moment) (w .moment))) vs v (and-left-of _ (rising (vs ++ v ∷ [])) h))
-      (rising-front vs v (and-right-of _ (rising (vs ++ v ∷ [])) h))
+    (rising-front vs v (and-right-of _ (rising (vs ++ v ∷ [])) h))
   where
     every-front : (f : Version → Bool) (ws : List Version) (w : Version) → every f (ws ++ w ∷ []) ≡ true → every f ws ≡ true
     every-front f [] w e = refl
@@ -258,9 +259,10 @@ seek-parts k s (u ∷ us) o =
         × (drop (pick b (suc (stretch (goes-before k s) us)) 0) (u ∷ us) ≡ pick (not b) (u ∷ those (λ v. not (goes-before k s v)) us) (those (λ v. not (goes-before k s v)) us))
     go true e ih c = (ap (λ l. u ∷ l) (ih .0), ih .1)
     go false e ih c =
-        let n = none-goes k s u us e c in
-        ( sym (those-none (λ w. not (goes-before k s w)) (goes-before k s) (λ w h. not-true (goes-before k s w) h) us n)
-        , ap (λ l. u ∷ l) (sym (those-all (λ w. not (goes-before k s w)) (λ w. not (goes-before k s w)) (λ w h. h) us n)) )
+        let n = none-goes k s u us e c in (
+          sym (those-none (λ w. not (goes-before k s w)) (goes-before k s) (λ w h. not-true (goes-before k s w) h) us n),
+          ap (λ l. u ∷ l) (sym (those-all (λ w. not (goes-before k s w)) (λ w. not (goes-before k s w)) (λ w h. h) us n)),
+        )
 
 -- above all moments it is the place of the key
 pub seek-key : (k : List ℕ) (s : ℕ) (us : List Version) → every (λ v. ltb (v .moment) s) us ≡ true → drop (stretch (goes-before k s) us) us ≡ seek k us

@@ -72,7 +72,7 @@ unfolding encoded
 encoded-small v h l =
     small-cons (wrap (v .moment)) _ (omega arith)
     (small-cons (measures (length (v .key)) (length (v .value)) (v .gone)) _ (measures-small (length (v .key)) (length (v .value)) (v .gone) h l)
-      (small-append (pack (v .key)) (pack (v .value)) (pack-small (v .key)) (pack-small (v .value))))
+    (small-append (pack (v .key)) (pack (v .value)) (pack-small (v .key)) (pack-small (v .value))))
 
 pub append-keeps : Append-keeps
 unfolding appended put-row
@@ -84,13 +84,14 @@ append-keeps arena used v = go (has-room (length arena) used (length (v .key)) (
     go true e =
         let r = room-there (length arena) used (length (v .key)) (length (v .value)) e in
         let m = and-left-of (leb 1 (length (v .key)) && (leb (length (v .key)) 255 && leb (length (v .value)) 1024)) _ e in
-        let n = and-right-of (leb 1 (length (v .key))) (leb (length (v .key)) 255 && leb (length (v .value)) 1024) m in
-        ( length-put arena used (encoded v) (omega (arith, length-encoded v))
-        , λ h. small-append (take used arena) (encoded v ++ drop (used + length (encoded v)) arena) (small-take used arena h)
-            (small-append (encoded v) (drop (used + length (encoded v)) arena)
+        let n = and-right-of (leb 1 (length (v .key))) (leb (length (v .key)) 255 && leb (length (v .value)) 1024) m in (
+          length-put arena used (encoded v) (omega (arith, length-encoded v)),
+          λ h. small-append (take used arena) (encoded v ++ drop (used + length (encoded v)) arena) (small-take used arena h)
+              (small-append (encoded v) (drop (used + length (encoded v)) arena)
               (encoded-small v (leb-true (length (v .key)) 255 (and-left-of (leb (length (v .key)) 255) _ n))
-                (leb-true (length (v .value)) 1024 (and-right-of (leb (length (v .key)) 255) _ n)))
-              (small-drop (used + length (encoded v)) arena h)) )
+              (leb-true (length (v .value)) 1024 (and-right-of (leb (length (v .key)) 255) _ n)))
+              (small-drop (used + length (encoded v)) arena h)),
+        )
 
 pub enter-keeps : Enter-keeps
 unfolding entered moved
@@ -101,11 +102,12 @@ enter-keeps index n at p = go (leb at n && ltb n (length index)) refl
     go false e = (refl, λ l h. h)
     go true e =
         let a = leb-true at n (and-left-of (leb at n) (ltb n (length index)) e) in
-        let b = ltb-true n (length index) (and-right-of (leb at n) (ltb n (length index)) e) in
-        ( length-append (take at index) (p ∷ (take (n - at) (drop at index) ++ drop (n + 1) index))
-            ∙ omega (arith, length-append (take (n - at) (drop at index)) (drop (n + 1) index), length-take at index, length-take (n - at) (drop at index), length-drop at index, length-drop (n + 1) index)
-        , λ l h. small-append (take at index) (p ∷ (take (n - at) (drop at index) ++ drop (n + 1) index)) (small-take at index h)
-            (small-cons p _ l (small-append (take (n - at) (drop at index)) (drop (n + 1) index) (small-take (n - at) (drop at index) (small-drop at index h)) (small-drop (n + 1) index h))) )
+        let b = ltb-true n (length index) (and-right-of (leb at n) (ltb n (length index)) e) in (
+          length-append (take at index) (p ∷ (take (n - at) (drop at index) ++ drop (n + 1) index))
+              ∙ omega (arith, length-append (take (n - at) (drop at index)) (drop (n + 1) index), length-take at index, length-take (n - at) (drop at index), length-drop at index, length-drop (n + 1) index),
+          λ l h. small-append (take at index) (p ∷ (take (n - at) (drop at index) ++ drop (n + 1) index)) (small-take at index h)
+              (small-cons p _ l (small-append (take (n - at) (drop at index)) (drop (n + 1) index) (small-take (n - at) (drop at index) (small-drop at index h)) (small-drop (n + 1) index h))),
+        )
 
 pub insert-keeps : Insert-keeps
 unfolding index-after arena-after
@@ -115,7 +117,7 @@ insert-keeps index arena t v = go (accepts-it t index arena v)
         (length (pick b (entered index (t .versions) (seek-place t index arena (v .key) (v .moment)) (t .used)) index) ≡ length index)
         × (length (pick b (appended arena (t .used) v) arena) ≡ length arena)
         × (t .used < 18446744073709551616 → small index ≡ true →
-            small (pick b (entered index (t .versions) (seek-place t index arena (v .key) (v .moment)) (t .used)) index) ≡ true)
+        small (pick b (entered index (t .versions) (seek-place t index arena (v .key) (v .moment)) (t .used)) index) ≡ true)
         × (small arena ≡ true → small (pick b (appended arena (t .used) v) arena) ≡ true)
     go false = (refl, refl, λ l h. h, λ h. h)
     go true =

@@ -20,6 +20,7 @@ use Rattle.memtable.specs.Words.{words, pack, put-row}
 use Rattle.memtable.specs.Arena.{moment-at, order-at, wrap, measures, size, encoded, has-room, appended}
 use Rattle.memtable.specs.Index.{moved, entered}
 use Rattle.memtable.specs.Memtable.{accepts, Countable, one-more, after-one, entries, ahead, ahead-at, seek-place, if-same, found, at-moment, written-at, accepts-it, table-after, index-after, arena-after}
+use Rattle.memtable.specs.Holds.{Refused-same}
 use Rattle.memtable.specs.declared.memtable.Memtable.{Memtable}
 use Rattle.memtable.proofs.WordLaws.{length-pack, put-one, put-put}
 
@@ -127,19 +128,31 @@ pub index-none : (t : Memtable) (index arena : List ℕ) (v : Version) → false
 unfolding index-after
 index-none t index arena v e = rw (← e) refl
 
-pub index-whole : (t : Memtable) (index arena : List ℕ) (v : Version) (at : ℕ) → true ≡ accepts-it t index arena v → at ≡ seek-place t index arena (v .key) (v .moment) →
-    entered index (t .versions) at (t .used) ≡ index-after t index arena v
+pub index-whole : (t : Memtable) (index arena : List ℕ) (v : Version) (at : ℕ) (r : List ℕ) → true ≡ accepts-it t index arena v →
+    at ≡ seek-place t index arena (v .key) (v .moment) → r ≡ entered index (t .versions) at (t .used) → r ≡ index-after t index arena v
 unfolding index-after
-index-whole t index arena v at e q = rw (← e, q) refl
+index-whole t index arena v at r e q f = f ∙ rw (← e, q) refl
 
 pub arena-none : (t : Memtable) (index arena : List ℕ) (v : Version) → false ≡ accepts-it t index arena v → arena ≡ arena-after t index arena v
 unfolding arena-after
 arena-none t index arena v e = rw (← e) refl
 
-pub arena-whole : (t : Memtable) (index arena : List ℕ) (v : Version) → true ≡ accepts-it t index arena v → appended arena (t .used) v ≡ arena-after t index arena v
+pub arena-whole : (t : Memtable) (index arena : List ℕ) (v : Version) (r : List ℕ) → true ≡ accepts-it t index arena v → r ≡ appended arena (t .used) v →
+    r ≡ arena-after t index arena v
 unfolding arena-after
-arena-whole t index arena v e = rw (← e) refl
+arena-whole t index arena v r e f = f ∙ rw (← e) refl
 
 pub accepts-room : (t : Memtable) (i a k v : ℕ) → accepts t i a k v ≡ true → has-room a (t .used) k v ≡ true
 unfolding accepts
 accepts-room t i a k v e = and-left-of (has-room a (t .used) k v) (ltb (t .versions) i && leb (t .weight + (64 + k + v)) 1048576) e
+
+pub refused-same : Refused-same
+unfolding accepts
+refused-same index arena t v = (
+  λ e. (
+    sym (index-none t index arena v (sym e)),
+    sym (arena-none t index arena v (sym e)),
+    sym (after-none t (length index) (length arena) (length (v .key)) (length (v .value)) (sym e)),
+  ),
+  λ e. rw e refl,
+)

@@ -66,6 +66,13 @@ Insert-right =
     Holds index arena t vs → fits v ≡ true → rising (vs ++ v ∷ []) ≡ true → accepts-it t index arena v ≡ true →
     Holds (index-after t index arena v) (arena-after t index arena v) (table-after t index arena v) (vs ++ v ∷ [])
 
+-- What is not accepted changes nothing; and a key that is empty or has more than 255 bytes, or a value of more than 1,024, is not accepted.
+abbrev pub Refused-same : Type 0
+Refused-same =
+    (index arena : List ℕ) (t : Memtable) (v : Version) →
+    (accepts-it t index arena v ≡ false → (index-after t index arena v ≡ index) × (arena-after t index arena v ≡ arena) × (table-after t index arena v ≡ t))
+    × ((leb 1 (length (v .key)) && (leb (length (v .key)) 255 && leb (length (v .value)) 1024)) ≡ false → accepts-it t index arena v ≡ false)
+
 -- What weighs at most 2^20 has at most 16,131 versions and takes at most 2^17 words.
 abbrev pub Sizes-suffice : Type 0
 Sizes-suffice = (vs : List Version) → every fits vs ≡ true → weight vs ≤ 1048576 → (length vs ≤ 16131) × (length (encode-all vs) ≤ 131072)

@@ -1,5 +1,5 @@
 // The laws of the memtable, each a function whose contract is the law.
-ghost use Rattle.memtable.specs.Holds.{Empty-right, Insert-right, Sizes-suffice, Room-right, Find-right, Written-right, Walk-right, Seek-right, Append-keeps, Enter-keeps, Insert-keeps};
+ghost use Rattle.memtable.specs.Holds.{Empty-right, Insert-right, Refused-same, Sizes-suffice, Room-right, Find-right, Written-right, Walk-right, Seek-right, Append-keeps, Enter-keeps, Insert-keeps};
 
 // Without versions nothing is held, whatever the words are.
 pub fn empty_holds_none()
@@ -9,6 +9,11 @@ pub fn empty_holds_none()
 // What is inserted is held, behind all that came.
 pub fn insert_holds_more()
     ensures { λ _. ⌜ Insert-right ⌝ }
+{}
+
+// What is not accepted changes nothing, and what is not allowed is not accepted.
+pub fn refused_same()
+    ensures { λ _. ⌜ Refused-same ⌝ }
 {}
 
 // What weighs at most 2^20 has at most 16,131 versions and takes at most 2^17 words.

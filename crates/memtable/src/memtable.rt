@@ -14,7 +14,12 @@ use value::Reply;
 use value::smaller_of;
 
 // All that is held weighs at most so much.
-const LIMIT: u64 = 1048576;
+pub const LIMIT: u64 = 1048576;
+
+// So many words of index and of arena have room for all of it.
+pub const INDEX_WORDS: u64 = 16384;
+
+pub const ARENA_WORDS: u64 = 131072;
 
 // How many versions there are, how many words of the arena they take, and what they weigh.
 #[derive(Clone, Copy)]
@@ -124,11 +129,11 @@ impl Memtable {
     pub fn written_at(self, index: &[u64], arena: &[u64], key: &[u8], moment: u64) -> bool
         ensures { λ r. ⌜ r ≡ written-at self (now (index .entry)) (now (arena .entry)) (now (key .entry)) moment ⌝ }
     {
-        let i = self.seek(index, arena, key, moment);
-        if i == 0 {
+        let next = self.seek(index, arena, key, moment);
+        if next == 0 {
             return false;
         }
-        let place = place_at(index, i - 1);
+        let place = place_at(index, next - 1);
         match order_at(arena, place, key) {
             Reply::Before => false,
             Reply::Same => moment_at(arena, place) == moment,

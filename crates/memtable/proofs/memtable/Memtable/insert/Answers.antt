@@ -1,4 +1,3 @@
-use mathlib.Core.Path.{_∙_}
 use lib.ListN.{length}
 use Rattle.value.specs.Versions.{version}
 use Rattle.memtable.proofs.StepLaws.{after-none, index-none, index-whole, arena-none, arena-whole}
@@ -20,6 +19,6 @@ returns c =
     let v = version (c .args .key .now) (c .args .moment) (c .args .gone) (c .args .value .now) in
     record {
       table = c .with-one .ensures;
-      index = c .enter .ensures ∙ index-whole (c .args .self) (c .args .index .now) (c .args .arena .now) v (c .seek-at .result) e (c .seek-at .ensures .is);
-      arena = c .append .ensures ∙ arena-whole (c .args .self) (c .args .index .now) (c .args .arena .now) v e;
+      index = index-whole (c .args .self) (c .args .index .now) (c .args .arena .now) v (c .seek-at .result) (c .enter .last .index) e (c .seek-at .ensures .is) (c .enter .ensures);
+      arena = arena-whole (c .args .self) (c .args .index .now) (c .args .arena .now) v (c .append .last .arena) e (c .append .ensures);
     }
