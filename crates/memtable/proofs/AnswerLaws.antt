@@ -1,30 +1,24 @@
 -- What a memtable that holds a list answers: the latest of a key, whether one was written at a moment, and the table of what came.
 use mathlib.Core.Path.{_≡_, refl, sym, ap, ap₂, _∙_}
-use mathlib.Core.Bool.{Bool, true, false, _&&_, not}
-use mathlib.Core.List.{List, [], _∷_, _++_}
+use mathlib.Core.Bool.{false, _&&_}
+use mathlib.Core.List.{List, [], _∷_}
 use mathlib.Core.Logic.{inl, inr}
-use Prim.Native.Nat.{ℕ, zero, suc, _+_, _-_, _*_, _≤_, _<_}
+use Prim.Native.Nat.{ℕ, zero, suc, _+_, _-_, _≤_}
 use native.Mathlib.Omega.{arith}
-use native.Mathlib.Numerals.{add-one, sub-one}
-use lib.Dec.{eqb, ltb, leb}
-use lib.ListN.{length, getD, take, drop}
+use native.Mathlib.Numerals.{add-one}
+use lib.Dec.{eqb, ltb}
+use lib.ListN.{getD, take, drop}
 use Rattle.std.proofs.shelf.Lists.{drop-more, drop-all}
 use Rattle.std.proofs.shelf.Tests.{cases-lt, lt-ltb, le-ltb, ne-eqb}
-use Rattle.std.specs.declared.option.Option.{Option}
-use Rattle.std.specs.declared.option.Option.the-variants.{None, Some}
-use Rattle.value.specs.Versions.{pick, every, any, each, same, before, Version, latest, added-up}
-use Rattle.value.specs.Rising.{rising}
-use Rattle.value.specs.Sorted.{sort, lookup-stop}
+use Rattle.value.specs.Versions.{pick, every, any, each, same, Version, latest, added-up}
+use Rattle.value.specs.Sorted.{sort}
 use Rattle.value.specs.Order.{Order-says}
 use Rattle.value.specs.declared.key.Reply.{Reply}
-use Rattle.value.specs.declared.key.Reply.the-variants.{Before, Same, Behind}
 use Rattle.value.proofs.SortLaws.{sort-any, sort-every, sort-orders, lookup-right}
 use Rattle.value.proofs.KeyLaws.{Order, before-it, same-as, behind-it, order}
-use Rattle.memtable.specs.Words.{bytes}
 use Rattle.memtable.specs.Arena.{version-at, moment-at, order-at}
-use Rattle.memtable.specs.Memtable.{none, entries, seek-place, if-same, found, at-moment, written-at}
-use Rattle.memtable.specs.Holds.{encode-all, Stands, goes-before, Holds, as-list, Empty-right, Sizes-suffice, Find-right, Written-right, Walk-right, Seek-right}
-use Rattle.memtable.specs.declared.memtable.Memtable.{Memtable}
+use Rattle.memtable.specs.Memtable.{seek-place, if-same, found, at-moment, written-at}
+use Rattle.memtable.specs.Holds.{encode-all, goes-before, as-list, Empty-right, Sizes-suffice, Find-right, Written-right, Walk-right, Seek-right}
 use Rattle.memtable.proofs.KeyOrderLaws.{ordered}
 use Rattle.memtable.proofs.SearchLaws.{stretch, stretch-within, first-of, lookup-first, is-at, last-at, any-last, seek-parts, seek-key}
 use Rattle.memtable.proofs.HeldLaws.{sized, counts, there, order-there, seek-is}

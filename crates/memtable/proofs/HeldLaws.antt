@@ -1,31 +1,28 @@
 -- What a memtable that holds a list tells of each place of its index, and where a search in it ends.
-use mathlib.Core.Path.{_≡_, refl, sym, ap, ap₂, subst, _∙_}
-use mathlib.Core.Bool.{Bool, true, false, _&&_, not}
-use mathlib.Core.List.{List, [], _∷_, _++_}
+use mathlib.Core.Path.{_≡_, refl, sym, ap, subst, _∙_}
+use mathlib.Core.Bool.{true}
+use mathlib.Core.List.{List, [], _∷_}
 use mathlib.Core.Logic.{inl, inr}
-use Prim.Native.Nat.{ℕ, zero, suc, _+_, _-_, _*_, _^_, _≤_, _<_}
+use Prim.Native.Nat.{ℕ, zero, suc, _*_, _^_, _≤_, _<_}
 use native.Mathlib.Omega.{arith}
-use lib.Dec.{eqb, ltb, leb}
-use lib.ListN.{length, getD, take, drop}
-use Rattle.std.specs.shelf.Lists.{All}
+use lib.ListN.{length, getD, take}
 use Rattle.std.proofs.shelf.Elements.{all-getD}
 use Rattle.std.proofs.shelf.Lists.{getD-take, length-take, length-append}
 use Rattle.std.proofs.shelf.Tests.{cases-lt, lt-ltb, le-ltb}
-use Rattle.value.specs.Versions.{pick, or, every, each, same, before, Version, added-up, weight}
-use Rattle.value.specs.Count.{smaller}
+use Rattle.value.specs.Versions.{every, each, Version, added-up, weight}
 use Rattle.value.specs.Rising.{rising}
-use Rattle.value.specs.Sorted.{sort, in-order}
+use Rattle.value.specs.Sorted.{sort}
 use Rattle.value.proofs.TestLaws.{and-left-of, and-right-of}
 use Rattle.value.proofs.SortLaws.{sort-every, sort-length, sort-orders}
-use Rattle.memtable.specs.Words.{bytes, words, pack}
+use Rattle.memtable.specs.Words.{bytes}
 use Rattle.memtable.specs.Loops.{bisect}
-use Rattle.memtable.specs.Arena.{version-at, moment-at, size, encoded, order-at}
+use Rattle.memtable.specs.Arena.{version-at, moment-at, encoded, order-at}
 use Rattle.memtable.specs.Memtable.{entries, ahead, ahead-at, seek-place}
 use Rattle.memtable.specs.Holds.{fits, encode-all, Stands, goes-before, Holds}
 use Rattle.memtable.specs.declared.memtable.Memtable.{Memtable}
 use Rattle.memtable.proofs.LoopLaws.{Parts, bisect-parts}
 use Rattle.memtable.proofs.KeyOrderLaws.{ordered}
-use Rattle.memtable.proofs.ReadLaws.{Fits, fits-parts, length-encoded, order-read}
+use Rattle.memtable.proofs.ReadLaws.{fits-parts, length-encoded, order-read}
 use Rattle.memtable.proofs.SearchLaws.{stretch, stretch-is, ahead-goes, every-getD, goes-falls}
 
 pub length-each : {A B : Type 0} (f : A → B) (xs : List A) → length (each f xs) ≡ length xs

@@ -1,33 +1,32 @@
 -- An insertion: what was held is held, with the new version behind all that came.
 use mathlib.Core.Path.{_≡_, refl, sym, ap, ap₂, subst, _∙_}
-use mathlib.Core.Bool.{Bool, true, false, _&&_, not}
+use mathlib.Core.Bool.{Bool, true, _&&_}
 use mathlib.Core.List.{List, [], _∷_, _++_}
 use mathlib.Core.Logic.{inl, inr}
-use Prim.Native.Nat.{ℕ, zero, suc, _+_, _-_, _*_, _≤_, _<_}
+use Prim.Native.Nat.{ℕ, zero, suc, _+_, _-_, _≤_, _<_}
 use native.Mathlib.Omega.{arith}
-use lib.Dec.{eqb, ltb, leb}
-use lib.ListN.{length, getD, take, drop}
+use lib.Dec.{ltb, leb}
+use lib.ListN.{length, take, drop}
 use Rattle.std.specs.shelf.Lists.{All}
 use Rattle.std.proofs.shelf.Elements.{all-append, all-take, all-drop}
-use Rattle.std.proofs.shelf.Ways.{tells}
 use Rattle.std.proofs.shelf.Tests.{cases-lt, lt-ltb, le-leb, lt-leb}
-use Rattle.std.proofs.shelf.Lists.{append-nil, append-assoc, take-all, take-at, take-take, take-append-le, drop-at, drop-take, drop-append-le, length-append, length-take, length-drop, length-take-le, length-push}
-use Rattle.value.specs.Versions.{pick, every, each, Version, added-up, weight}
+use Rattle.std.proofs.shelf.Lists.{append-nil, append-assoc, take-all, take-at, take-take, take-append-le, drop-at, drop-take, drop-append-le, length-append, length-take, length-drop, length-push}
+use Rattle.value.specs.Versions.{every, each, Version, added-up, weight}
 use Rattle.value.specs.Rising.{rising}
-use Rattle.value.specs.Sorted.{sort, insert-new}
+use Rattle.value.specs.Sorted.{sort}
 use Rattle.value.proofs.TestLaws.{and-left-of, and-right-of, every-append, and-false-right}
 use Rattle.value.proofs.SortLaws.{sort-every}
 use Rattle.value.proofs.MergeLaws.{push-right}
-use Rattle.memtable.specs.Words.{words, pack, put-row}
+use Rattle.memtable.specs.Words.{put-row}
 use Rattle.memtable.specs.Arena.{version-at, size, encoded, has-room, appended}
 use Rattle.memtable.specs.Index.{moved, entered}
 use Rattle.memtable.specs.Memtable.{accepts, one-more, after-one, seek-place, accepts-it, table-after, index-after, arena-after}
 use Rattle.memtable.specs.Holds.{fits, encode-all, Stands, goes-before, Holds, Insert-right, Room-right}
 use Rattle.memtable.specs.declared.memtable.Memtable.{Memtable}
 use Rattle.memtable.proofs.StepLaws.{Accepted, accepted, accepts-room}
-use Rattle.memtable.proofs.ReadLaws.{Fits, fits-parts, length-encoded, version-read}
+use Rattle.memtable.proofs.ReadLaws.{fits-parts, length-encoded, version-read}
 use Rattle.memtable.proofs.SearchLaws.{stretch, stretch-within, insert-there, rising-newer, rising-front, newer}
-use Rattle.memtable.proofs.HeldLaws.{length-each, Sized, sized, Counted, counts, seek-is}
+use Rattle.memtable.proofs.HeldLaws.{sized, counts, seek-is}
 
 -- LISTS
 each-append : {A B : Type 0} (f : A → B) (xs ys : List A) → each f (xs ++ ys) ≡ each f xs ++ each f ys

@@ -1,16 +1,15 @@
 -- Keys compared word by word, and by their lengths where all words are the same, stand as keys do.
 use mathlib.Core.Path.{_≡_, refl, sym, ap, ap₂, _∙_}
-use mathlib.Core.Bool.{Bool, true, false, _&&_}
+use mathlib.Core.Bool.{true}
 use mathlib.Core.List.{List, [], _∷_}
-use mathlib.Core.Logic.{_⊎_, inl, inr}
-use Prim.Native.Nat.{ℕ, zero, suc, _+_, _-_, _*_, _/_, _≤_, _<_}
+use mathlib.Core.Logic.{inl, inr}
+use Prim.Native.Nat.{ℕ, zero, suc, _+_, _*_, _≤_}
 use native.Mathlib.Omega.{arith}
 use native.Mathlib.Numerals.{add-one}
-use lib.Dec.{eqb, ltb, leb}
 use lib.ListN.{length, getD}
 use Rattle.std.proofs.shelf.Ways.{tells}
-use Rattle.std.proofs.shelf.Tests.{lt-ltb, le-ltb, cases-order, cases-lt}
-use Rattle.value.specs.Versions.{pick, or, same, before}
+use Rattle.std.proofs.shelf.Tests.{cases-lt}
+use Rattle.value.specs.Versions.{pick, same, before}
 use Rattle.value.specs.Count.{smaller}
 use Rattle.value.specs.declared.key.Reply.{Reply}
 use Rattle.value.specs.declared.key.Reply.the-variants.{Before, Same, Behind}

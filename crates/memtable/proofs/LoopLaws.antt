@@ -1,14 +1,13 @@
 -- Loops, round by round: what is left to do gives what the whole gives.
-use mathlib.Core.Path.{_≡_, refl, sym, ap, _∙_}
+use mathlib.Core.Path.{_≡_, refl, sym}
 use mathlib.Core.Bool.{Bool, true, false}
 use mathlib.Core.Logic.{inl, inr}
-use Prim.Native.Nat.{ℕ, zero, suc, _+_, _-_, _*_, _/_, _^_, _≤_, _<_}
+use Prim.Native.Nat.{ℕ, zero, suc, _+_, _-_, _^_, _≤_, _<_}
 use native.Mathlib.Omega.{arith}
 use native.Mathlib.Nat.{pow-suc}
 use Rattle.std.proofs.shelf.Tests.{lt-ltb, le-ltb, cases-lt, cases-bool, both-ways}
-use Rattle.value.specs.Versions.{pick}
 use Rattle.value.specs.declared.key.Reply.{Reply}
-use Rattle.value.specs.declared.key.Reply.the-variants.{Before, Same, Behind}
+use Rattle.value.specs.declared.key.Reply.the-variants.{Before, Behind}
 use Rattle.memtable.specs.Loops.{middle, bisect, compare}
 
 pub compare-less : (f g : ℕ → ℕ) (n k : ℕ) (tie : Reply) (a b : ℕ) → k < n → a ≡ f k → b ≡ g k → a < b → compare f g (n - k) k tie ≡ Before

@@ -1,26 +1,22 @@
 -- Packed bytes: they come out again, and words compare as the bytes in them do.
 use mathlib.Core.Path.{_≡_, refl, sym, ap, ap₂, _∙_}
-use mathlib.Core.Bool.{Bool, true, false, _&&_}
-use mathlib.Core.List.{List, [], _∷_, _++_}
-use mathlib.Core.Logic.{_⊎_, inl, inr}
-use Prim.Native.Nat.{ℕ, zero, suc, _+_, _-_, _*_, _/_, _%_, _^_, _≤_, _<_}
+use mathlib.Core.Bool.{true}
+use mathlib.Core.List.{List, [], _∷_}
+use mathlib.Core.Logic.{inl, inr}
+use Prim.Native.Nat.{ℕ, zero, suc, _+_, _*_, _/_, _%_, _≤_, _<_}
 use native.Mathlib.Omega.{arith}
-use native.Mathlib.Numerals.{add-one}
 use native.Mathlib.Nat.{mul-le-mul-right, add-mul}
-use lib.Dec.{eqb, ltb, leb}
-use lib.ListN.{length, getD, take, drop}
-use Rattle.std.proofs.shelf.Ways.{tells}
-use Rattle.std.proofs.shelf.Tests.{ltb-true, lt-ltb, le-ltb, cases-order, cases-lt}
+use lib.Dec.{ltb}
+use lib.ListN.{length, getD}
+use Rattle.std.proofs.shelf.Tests.{ltb-true, lt-ltb, le-ltb, cases-order}
 use Rattle.std.proofs.shelf.Lists.{ext-getD}
-use Rattle.value.specs.Versions.{pick, every, same, before}
-use Rattle.value.specs.Count.{smaller}
+use Rattle.value.specs.Versions.{pick, every}
 use Rattle.value.specs.declared.key.Reply.{Reply}
-use Rattle.value.specs.declared.key.Reply.the-variants.{Before, Same, Behind}
+use Rattle.value.specs.declared.key.Reply.the-variants.{Before, Behind}
 use Rattle.value.proofs.TestLaws.{and-left-of, and-right-of}
-use Rattle.memtable.specs.Words.{bytes, octet, word, words, packed-word, pack, byte, byte-behind, row}
+use Rattle.memtable.specs.Words.{bytes, octet, word, words, packed-word, byte, byte-behind, row}
 use Rattle.memtable.specs.Loops.{compare}
-use Rattle.memtable.specs.Arena.{by-length}
-use Rattle.memtable.proofs.WordLaws.{length-row, getD-row, getD-pack}
+use Rattle.memtable.proofs.WordLaws.{length-row, getD-row}
 
 -- byte k of eight packed into a word
 byte-word : (a b c d e f g h k : ℕ) → a < 256 → b < 256 → c < 256 → d < 256 → e < 256 → f < 256 → g < 256 → h < 256 → k < 8 →

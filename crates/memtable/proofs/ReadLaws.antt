@@ -1,18 +1,17 @@
 -- A version whose words stand in the arena is read as it was written, and its key compares as a key.
-use mathlib.Core.Path.{_≡_, refl, sym, ap, ap₂, _∙_}
+use mathlib.Core.Path.{_≡_, refl, sym, ap, _∙_}
 use mathlib.Core.Bool.{Bool, true, false, _&&_}
-use mathlib.Core.List.{List, [], _∷_, _++_}
-use Prim.Native.Nat.{ℕ, zero, suc, _+_, _-_, _*_, _/_, _%_, _≤_, _<_}
+use mathlib.Core.List.{List}
+use Prim.Native.Nat.{ℕ, suc, _+_, _*_, _/_, _%_, _≤_, _<_}
 use native.Mathlib.Omega.{arith}
 use lib.Dec.{eqb, ltb, leb}
 use lib.ListN.{length, getD, take, drop}
 use Rattle.std.proofs.shelf.Tests.{ltb-true, leb-true}
 use Rattle.std.proofs.shelf.Lists.{getD-take, getD-drop, getD-append-left, getD-append-add, length-take, length-drop, length-append}
-use Rattle.value.specs.Versions.{pick, every, same, before, Version, version}
+use Rattle.value.specs.Versions.{Version, version}
 use Rattle.value.specs.Count.{smaller}
 use Rattle.value.proofs.TestLaws.{and-left-of, and-right-of}
-use Rattle.value.specs.declared.key.Reply.{Reply}
-use Rattle.memtable.specs.Words.{bytes, words, packed-word, pack, row}
+use Rattle.memtable.specs.Words.{bytes, words, packed-word, pack}
 use Rattle.memtable.specs.Loops.{compare}
 use Rattle.memtable.specs.Arena.{moment-at, key-length, value-length, gone-at, key-at, value-at, version-at, wrap, measures, size, encoded, key-word, by-length, order-at}
 use Rattle.memtable.specs.Holds.{fits, Stands}

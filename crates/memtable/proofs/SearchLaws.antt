@@ -3,18 +3,17 @@ use mathlib.Core.Path.{_≡_, refl, sym, ap, ap₂, _∙_}
 use mathlib.Core.Bool.{Bool, true, false, _&&_, not}
 use mathlib.Core.List.{List, [], _∷_, _++_}
 use mathlib.Core.Logic.{_⊎_, inl, inr}
-use Prim.Native.Nat.{ℕ, zero, suc, _+_, _-_, _≤_, _<_}
+use Prim.Native.Nat.{ℕ, zero, suc, _≤_, _<_}
 use native.Mathlib.Omega.{arith}
 use lib.Dec.{eqb, ltb, leb}
 use lib.ListN.{length, getD, take, drop}
-use Rattle.std.proofs.shelf.Tests.{cases-lt, ltb-true, ltb-false, leb-true, leb-false, eqb-true, eqb-false, lt-ltb, le-ltb, le-leb, lt-leb, eq-eqb, ne-eqb, not-true}
+use Rattle.std.proofs.shelf.Tests.{cases-lt, ltb-true, leb-true, eqb-true, lt-ltb, le-ltb, le-leb, lt-leb, not-true}
 use borrow.Author.Tests.{eqb-apart}
 use Rattle.value.specs.Versions.{pick, or, every, any, those, same, before, Version}
 use Rattle.value.specs.Rising.{rising}
 use Rattle.value.specs.Sorted.{insert-new, comes-first, in-order, lookup-stop, seek}
 use Rattle.value.proofs.TestLaws.{clash, or-true-right, or-cases, and-left-of, and-right-of, every-mono, every-not-any, those-none, those-all}
-use Rattle.value.proofs.KeyLaws.{same-refl, same-eq, same-sym, before-irrefl, before-trans, before-not, before-apart, Order, before-it, same-as, behind-it, order}
-use Rattle.value.specs.declared.key.Reply.{Reply}
+use Rattle.value.proofs.KeyLaws.{same-eq, before-irrefl, before-trans, Order, before-it, same-as, behind-it, order}
 use Rattle.value.specs.declared.key.Reply.the-variants.{Before, Same, Behind}
 use Rattle.memtable.specs.Memtable.{ahead}
 use Rattle.memtable.specs.Holds.{goes-before}

@@ -1,22 +1,21 @@
 -- On any words a write keeps how many there are, and that they have 64 bits.
-use mathlib.Core.Path.{_≡_, refl, sym, ap, _∙_}
+use mathlib.Core.Path.{_≡_, refl, _∙_}
 use mathlib.Core.Bool.{Bool, true, false, _&&_}
 use mathlib.Core.List.{List, [], _∷_, _++_, map}
-use Prim.Native.Nat.{ℕ, zero, suc, _+_, _-_, _*_, _/_, _%_, _≤_, _<_}
+use Prim.Native.Nat.{ℕ, zero, suc, _+_, _-_, _*_, _≤_, _<_}
 use native.Mathlib.Omega.{arith}
 use lib.Dec.{ltb, leb}
-use lib.ListN.{length, getD, take, drop}
+use lib.ListN.{length, take, drop}
 use Rattle.std.specs.Iters.{counting}
 use Rattle.std.proofs.shelf.Tests.{lt-ltb, ltb-true, leb-true}
 use Rattle.std.proofs.shelf.Lists.{length-append, length-take, length-drop}
 use Rattle.value.specs.Versions.{pick, every, Version}
 use Rattle.value.proofs.TestLaws.{and-left-of, and-right-of, every-append}
-use Rattle.memtable.specs.Words.{octet, word, words, packed-word, pack, put-row}
-use Rattle.memtable.specs.Arena.{wrap, measures, size, encoded, has-room, appended}
+use Rattle.memtable.specs.Words.{word, words, packed-word, pack, put-row}
+use Rattle.memtable.specs.Arena.{wrap, measures, encoded, has-room, appended}
 use Rattle.memtable.specs.Index.{moved, entered}
 use Rattle.memtable.specs.Memtable.{accepts-it, seek-place, index-after, arena-after}
 use Rattle.memtable.specs.Holds.{small, Append-keeps, Enter-keeps, Insert-keeps}
-use Rattle.memtable.specs.declared.memtable.Memtable.{Memtable}
 use Rattle.memtable.proofs.WordLaws.{length-put}
 use Rattle.memtable.proofs.ReadLaws.{length-encoded}
 use Rattle.memtable.proofs.StepLaws.{room-there}

@@ -1,25 +1,24 @@
 -- What the code does step by step is what its definition says at once: a version appended, a place entered.
 use mathlib.Core.Path.{_≡_, refl, sym, ap, _∙_}
-use mathlib.Core.Bool.{Bool, true, false, _&&_}
+use mathlib.Core.Bool.{true, false, _&&_}
 use mathlib.Core.List.{List, [], _∷_, _++_}
-use Prim.Native.Nat.{ℕ, zero, suc, _+_, _-_, _*_, _≤_, _<_}
+use Prim.Native.Nat.{ℕ, _+_, _-_, _≤_, _<_}
 use native.Mathlib.Omega.{arith}
 use borrow.Author.Needs.{needs}
-use lib.Dec.{eqb, ltb, leb}
+use lib.Dec.{ltb, leb}
 use lib.ListN.{length, getD, take, drop, set}
 use Rattle.std.specs.shelf.Lists.{paste}
 use Rattle.std.proofs.shelf.Ways.{tells}
-use Rattle.std.proofs.shelf.Tests.{cases-eq, leb-true, ltb-true, lt-ltb, le-ltb, eq-eqb, ne-eqb}
+use Rattle.std.proofs.shelf.Tests.{cases-eq, leb-true, ltb-true, lt-ltb, le-ltb, ne-eqb}
 use Rattle.std.proofs.shelf.Lists.{same-lists, places, getD-set-same, length-set}
-use Rattle.std.specs.declared.option.Option.{Option}
-use Rattle.std.specs.declared.option.Option.the-variants.{None, Some}
+use Rattle.std.specs.declared.option.Option.the-variants.{None}
 use Rattle.value.specs.declared.key.Reply.{Reply}
-use Rattle.value.specs.Versions.{pick, Version, version}
+use Rattle.value.specs.Versions.{Version}
 use Rattle.value.proofs.TestLaws.{and-left-of, and-right-of}
 use Rattle.memtable.specs.Words.{words, pack, put-row}
 use Rattle.memtable.specs.Arena.{moment-at, order-at, wrap, measures, size, encoded, has-room, appended}
 use Rattle.memtable.specs.Index.{moved, entered}
-use Rattle.memtable.specs.Memtable.{accepts, Countable, one-more, after-one, entries, ahead, ahead-at, seek-place, if-same, found, at-moment, written-at, accepts-it, table-after, index-after, arena-after}
+use Rattle.memtable.specs.Memtable.{accepts, Countable, one-more, after-one, entries, ahead, ahead-at, seek-place, if-same, found, at-moment, written-at, accepts-it, index-after, arena-after}
 use Rattle.memtable.specs.Holds.{Refused-same}
 use Rattle.memtable.specs.declared.memtable.Memtable.{Memtable}
 use Rattle.memtable.proofs.WordLaws.{length-pack, put-one, put-put}

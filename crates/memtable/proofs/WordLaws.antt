@@ -1,19 +1,18 @@
 -- Packed rows: how long they are, what they hold, and the loops that write and read them.
 use mathlib.Core.Path.{_≡_, refl, sym, ap, _∙_}
-use mathlib.Core.List.{List, [], _∷_, _++_, map}
-use Prim.Native.Nat.{ℕ, zero, suc, _+_, _-_, _*_, _/_, _%_, _^_, _≤_, _<_}
+use mathlib.Core.List.{List, [], _∷_, _++_}
+use Prim.Native.Nat.{ℕ, _+_, _-_, _*_, _≤_, _<_}
 use native.Mathlib.Omega.{arith}
 use native.Mathlib.Numerals.{add-one}
 use lib.ListN.{length, getD, take, drop, set}
 use mathlib.Core.Logic.{inl, inr}
-use Rattle.std.specs.Iters.{counting}
 use Rattle.std.specs.shelf.Lists.{paste}
 use Rattle.std.proofs.shelf.Counted.{length-map-counting, getD-map-counting}
-use Rattle.std.proofs.shelf.Edits.{paste-none, paste-more, paste-all}
+use Rattle.std.proofs.shelf.Edits.{paste-more, paste-all}
 use Rattle.std.proofs.shelf.Lists.{append-assoc, take-all, drop-all, take-more, drop-more, take-at, drop-at, drop-drop, length-take, length-drop, length-append, length-take-le, set-append-right, set-split}
 use Rattle.std.proofs.shelf.Tests.{cases-lt, lt-ltb, le-ltb}
 use Rattle.value.specs.Count.{smaller}
-use Rattle.memtable.specs.Words.{octet, word, words, packed-word, pack, byte, byte-behind, row, laid, put-row}
+use Rattle.memtable.specs.Words.{word, words, packed-word, pack, byte-behind, row, laid, put-row}
 
 pub length-pack : (bs : List ℕ) → length (pack bs) ≡ words (length bs)
 unfolding pack

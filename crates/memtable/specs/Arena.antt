@@ -3,9 +3,9 @@
 -- `version-at arena p`: the version that stands at the place p, whatever the words are. `encoded v`: a version as words. `size k v`: how many words.
 -- `order-at arena p k`: where the key at p stands to another, word by word, and by their lengths where all words are the same.
 -- `appended`: the arena with one version more, from the first free word on; unchanged if the version's measures are not allowed or it finds no room.
-use mathlib.Core.Bool.{Bool, true, false, _&&_}
-use mathlib.Core.List.{List, [], _∷_, _++_}
-use Prim.Native.Nat.{ℕ, zero, suc, _+_, _*_, _-_, _/_, _%_}
+use mathlib.Core.Bool.{Bool, _&&_}
+use mathlib.Core.List.{List, _∷_, _++_}
+use Prim.Native.Nat.{ℕ, _+_, _*_, _/_, _%_}
 use lib.Dec.{eqb, ltb, leb}
 use lib.ListN.{length, getD}
 use Rattle.value.specs.Versions.{pick, Version, version}

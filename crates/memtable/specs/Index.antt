@@ -1,6 +1,6 @@
 -- The index: a word for each version, its place in the arena, in the order of a table.
 -- `entered index n at p`: of an index of n places, p put in at `at`, and those from there on moved by one; unchanged if `at` is not one of them or there is no room.
-use mathlib.Core.Bool.{Bool, _&&_}
+use mathlib.Core.Bool.{_&&_}
 use mathlib.Core.List.{List, _∷_, _++_}
 use Prim.Native.Nat.{ℕ, _+_, _-_}
 use lib.Dec.{ltb, leb}

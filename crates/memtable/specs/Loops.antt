@@ -1,11 +1,11 @@
 -- Loops as definitions. `bisect p n low high`: n rounds of a search between two places for the first where the test fails.
 -- `compare f g n k tie`: where the first of two rows of words stands to the second, n words from k on; `tie` if all are the same.
-use mathlib.Core.Bool.{Bool, true, false}
+use mathlib.Core.Bool.{Bool}
 use Prim.Native.Nat.{ℕ, zero, suc, _+_, _-_, _/_}
 use lib.Dec.{ltb}
 use Rattle.value.specs.Versions.{pick}
 use Rattle.value.specs.declared.key.Reply.{Reply}
-use Rattle.value.specs.declared.key.Reply.the-variants.{Before, Same, Behind}
+use Rattle.value.specs.declared.key.Reply.the-variants.{Before, Behind}
 
 abbrev pub middle : ℕ → ℕ → ℕ
 middle low high = low + (high - low) / 2

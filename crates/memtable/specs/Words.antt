@@ -3,8 +3,8 @@
 -- `pack bs`: the bytes as words. `byte w k`: byte k of a word. `row ws p s n`: the n bytes that lie s words behind the place p.
 -- `laid bs out`: a row of bytes with bs laid over its beginning, as far as there is room. `put-row ws at xs`: words with xs written over them from `at` on.
 use mathlib.Core.Bool.{Bool}
-use mathlib.Core.List.{List, [], _∷_, _++_, map}
-use Prim.Native.Nat.{ℕ, zero, suc, _+_, _*_, _-_, _/_, _%_, _^_}
+use mathlib.Core.List.{List, _++_, map}
+use Prim.Native.Nat.{ℕ, _+_, _*_, _-_, _/_, _%_, _^_}
 use lib.Dec.{ltb}
 use lib.ListN.{length, getD, take, drop}
 use Rattle.std.specs.Iters.{counting}

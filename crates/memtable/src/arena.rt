@@ -1,10 +1,10 @@
 // The arena: versions in lent words, in the order in which they came. Whatever the words are, each read gives something and no write leaves the row.
 ghost use mathlib.Core.Path.{_≡_};
-ghost use Prim.Native.Nat.{ℕ, _+_, _*_, _%_, _<_, _≤_};
+ghost use Prim.Native.Nat.{_+_, _*_, _%_, _<_, _≤_};
 ghost use lib.ListN.{length};
 ghost use Rattle.value.specs.Versions.{version};
 ghost use Rattle.memtable.specs.Words.{words, laid, byte-behind};
-ghost use Rattle.memtable.specs.Arena.{moment-at, key-length, value-length, gone-at, key-at, value-at, measures, size, has-room, appended, by-length, order-at};
+ghost use Rattle.memtable.specs.Arena.{moment-at, key-length, value-length, gone-at, key-at, value-at, measures, has-room, appended, by-length, order-at};
 use crate::words::byte_behind;
 use crate::words::peek;
 use crate::words::peek_behind;

@@ -1,7 +1,6 @@
 // The memtable: versions of keys in two lent rows of words, found by binary search. Whatever the words are, each function answers, and ends.
 ghost use mathlib.Core.Path.{_≡_};
-ghost use Prim.Native.Nat.{ℕ, _≤_};
-ghost use lib.ListN.{length};
+ghost use Prim.Native.Nat.{_≤_};
 ghost use Rattle.value.specs.Versions.{version};
 ghost use Rattle.memtable.specs.Memtable.{none, accepts, Countable, one-more, after-one, entries, ahead-at, seek-place, found, written-at, table-after, index-after, arena-after};
 use crate::arena::append;

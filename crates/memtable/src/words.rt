@@ -1,8 +1,8 @@
 // Words of 64 bits in a lent row, and bytes packed into them eight to a word, the highest first. A read outside the row gives 0.
 ghost use mathlib.Core.Path.{_≡_};
-ghost use Prim.Native.Nat.{ℕ, _+_, _*_, _%_, _^_, _<_, _≤_};
+ghost use Prim.Native.Nat.{_+_, _*_, _%_, _<_, _≤_};
 ghost use lib.ListN.{length, getD};
-ghost use Rattle.memtable.specs.Words.{octet, word, words, packed-word, pack, byte, byte-behind, row, laid, put-row};
+ghost use Rattle.memtable.specs.Words.{octet, word, words, pack, byte, byte-behind, row, laid, put-row};
 use value::smaller_of;
 
 // The word at a place.

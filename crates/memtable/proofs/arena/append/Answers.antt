@@ -1,10 +1,10 @@
 use mathlib.Core.Path.{_≡_, sym, ap, _∙_}
-use Prim.Native.Nat.{ℕ, _+_}
+use Prim.Native.Nat.{_+_}
 use native.Mathlib.Omega.{arith}
 use lib.ListN.{length, set}
-use Rattle.value.specs.Versions.{Version, version}
+use Rattle.value.specs.Versions.{version}
 use Rattle.memtable.specs.Words.{words, pack, put-row}
-use Rattle.memtable.specs.Arena.{wrap, measures, appended}
+use Rattle.memtable.specs.Arena.{wrap, measures}
 use Rattle.memtable.proofs.StepLaws.{appended-none, appended-whole}
 use Rattle.memtable.proofs.arena.append.Needs as need
 

@@ -1,4 +1,4 @@
-use mathlib.Core.Path.{_≡_, sym, ap, _∙_}
+use mathlib.Core.Path.{ap, _∙_}
 use lib.Dec.{leb}
 use Rattle.value.specs.declared.key.Reply.the-variants.{Before, Same, Behind}
 use Rattle.memtable.proofs.StepLaws.{ahead-by}

@@ -2,7 +2,7 @@ use mathlib.Core.Path.{_≡_, sym, ap, _∙_}
 use native.Mathlib.Omega.{arith}
 use lib.ListN.{length, set}
 use Rattle.memtable.specs.Words.{row}
-use Rattle.memtable.proofs.WordLaws.{length-row, getD-row, laid-so-far, laid-more, laid-all, below-smaller}
+use Rattle.memtable.proofs.WordLaws.{length-row, getD-row, laid-more, laid-all, below-smaller}
 use Rattle.memtable.proofs.words.unpack_into.Needs as need
 
 pub loop-i-again : need.loop-i-again

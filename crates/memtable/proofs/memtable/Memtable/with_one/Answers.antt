@@ -1,5 +1,4 @@
 use borrow.Author.Needs.{needs}
-use mathlib.Core.Path.{sym}
 use native.Mathlib.Omega.{arith}
 use Rattle.memtable.proofs.StepLaws.{after-none, after-whole, countable}
 use Rattle.memtable.proofs.memtable.Memtable.with_one.Needs as need
