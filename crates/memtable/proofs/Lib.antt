@@ -1,0 +1,11 @@
+pub mod WordLaws
+pub mod LoopLaws
+pub mod StepLaws
+pub mod PackLaws
+pub mod KeyOrderLaws
+pub mod ReadLaws
+pub mod SearchLaws
+pub mod HeldLaws
+pub mod AnswerLaws
+pub mod InsertLaws
+pub mod SteadyLaws

@@ -1,0 +1,37 @@
+// What is in memory: versions of keys in two lent rows of words, an arena in the order in which they came and an index in the order of a table.
+mod arena;
+mod index;
+mod laws;
+mod memtable;
+mod words;
+
+pub use arena::append;
+pub use arena::has_room;
+pub use arena::is_gone;
+pub use arena::key_byte;
+pub use arena::key_into;
+pub use arena::key_len;
+pub use arena::moment_at;
+pub use arena::order_at;
+pub use arena::value_byte;
+pub use arena::value_into;
+pub use arena::value_len;
+pub use index::enter;
+pub use index::place_at;
+pub use laws::append_keeps;
+pub use laws::empty_holds_none;
+pub use laws::enter_keeps;
+pub use laws::find_is_latest;
+pub use laws::insert_holds_more;
+pub use laws::insert_keeps;
+pub use laws::refused_same;
+pub use laws::room_is_weight;
+pub use laws::seek_parts;
+pub use laws::sizes_suffice;
+pub use laws::walk_is_sorted;
+pub use laws::written_is_any;
+pub use memtable::ARENA_WORDS;
+pub use memtable::INDEX_WORDS;
+pub use memtable::LIMIT;
+pub use memtable::Memtable;
+pub use memtable::empty;
