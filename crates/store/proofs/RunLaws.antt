@@ -7,7 +7,7 @@ use native.Mathlib.Omega.{arith}
 use lib.Dec.{ltb, leb}
 use lib.ListN.{length}
 use Rattle.value.specs.Versions.{pick, Version}
-use Rattle.store.specs.Device.{Device, a-page}
+use Rattle.table.specs.Device.{Device, a-page}
 use Rattle.store.specs.Promise.{Event, on, said, page, next, Act, read, put, settle, tells, done, refused, Step, Engine, World, world, Ran, ran, queued, one-act, runs}
 use Rattle.store.specs.Account.{Next, Next-step, Account, Wake-next}
 

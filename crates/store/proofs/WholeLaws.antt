@@ -11,7 +11,7 @@ use Rattle.value.specs.Rising.{last-moment}
 use Rattle.value.specs.Versions.{every, Version}
 use Rattle.value.proofs.TestLaws.{and-left-of, and-right-of}
 use Rattle.value.proofs.KeyLaws.{same-refl}
-use Rattle.store.specs.Device.{Device, Page, left, blank}
+use Rattle.table.specs.Device.{Device, Page, left, blank}
 use Rattle.store.specs.House.{House, house, Command, write, erase, get, range, first-key, last-key, count, flush, compact, refusal, after, May, Refused-too, stopped-house, small-command, shows}
 use Rattle.store.specs.Promise.{Event, on, said, page, next, Act, read, put, settle, tells, done, refused, Engine, World, world, Ran, Steady, Cut, Item, whole, stops, proper, waking, again, Wakes, begins-rows, Right, Whole}
 use Rattle.store.specs.Account.{Next, Next-step, Account, rested, resting, leavings, Wake-next, Ends, unknown, rejected, no-room, finished, Tells-right, nothing, part, Stop-leaves, undone, done-already, most-commands, Serves, Obligations, tested, Steps-suffice}

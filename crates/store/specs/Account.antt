@@ -14,7 +14,7 @@ use lib.Dec.{ltb, leb}
 use lib.ListN.{length}
 use Rattle.value.specs.Rising.{last-moment}
 use Rattle.value.specs.Versions.{Version}
-use Rattle.store.specs.Device.{Device, Page, read-page, flushed, left, blank, a-page}
+use Rattle.table.specs.Device.{Device, Page, read-page, flushed, left, blank, a-page}
 use Rattle.store.specs.House.{House, house, Command, refusal, after, Refused-too, small-command, shows}
 use Rattle.store.specs.Promise.{Event, on, said, page, next, Act, read, put, settle, tells, done, refused, Engine, World, world, queued, Steady, Whole}
 

@@ -1,4 +1,3 @@
-pub mod Device
 pub mod House
 pub mod Worked
 pub mod Promise

@@ -7,7 +7,7 @@ use lib.Dec.{eqb, ltb, leb}
 use lib.ListN.{length, getD, take, drop}
 use mathlib.Core.Logic.{_⊎_}
 use Rattle.value.specs.Versions.{pick, every, any, same, Version, latest}
-use Rattle.store.specs.Device.{Device, Page, Write, page-at, read-page, flushed, stopped, blank, a-page, all-written}
+use Rattle.table.specs.Device.{Device, Page, Write, page-at, read-page, flushed, stopped, blank, a-page, all-written, elsewhere}
 use Rattle.store.specs.House.{House, house, Command, refusal, after, May, stopped-house, small-command, shows}
 
 pub data Event : Type 0 where
@@ -134,10 +134,6 @@ Whole known e =
     (w₁ : World) × Wakes e (again e (world (record { pages = blank pages; queue = [] }) (e .start)) ks) w₁ × Right known pages e w₁ (house [] [] 0 0) is)
 
 -- What was settled stays, whatever a stop leaves of later writes to other pages.
-unfoldable pub elsewhere : ℕ → List Write → Bool
-elsewhere k [] = true
-elsewhere k (q ∷ qs) = pick (eqb (q .at) k) false (elsewhere k qs)
-
 abbrev pub Settled-stays : Type 0
 Settled-stays =
     (d : Device) (qs : List Write) (cs : List ℕ) (k : ℕ) → elsewhere k qs ≡ true →

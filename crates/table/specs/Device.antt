@@ -53,6 +53,11 @@ left ps (w ∷ ws) (c ∷ cs) =
 abbrev pub stopped : Device → List ℕ → Device
 stopped d cs = record { pages = left (d .pages) (d .queue) cs; queue = [] }
 
+-- none of these writes is to page k
+unfoldable pub elsewhere : ℕ → List Write → Bool
+elsewhere k [] = true
+elsewhere k (q ∷ qs) = pick (eqb (q .at) k) false (elsewhere k qs)
+
 unfoldable pub zeros : ℕ → List ℕ
 zeros zero = []
 zeros (suc n) = 0 ∷ zeros n

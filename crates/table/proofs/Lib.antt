@@ -1,0 +1,12 @@
+pub mod BlockLaws
+pub mod LayoutLaws
+pub mod SizeLaws
+pub mod SumLaws
+pub mod DamageLaws
+pub mod StreamLaws
+pub mod SearchLaws
+pub mod ReadingLaws
+pub mod WritingLaws
+pub mod LieLaws
+pub mod FillLaws
+pub mod DeviceLaws

@@ -1,0 +1,5 @@
+use Rattle.table.proofs.SearchLaws.{search-narrows}
+use Rattle.table.proofs.laws.search_narrows.Needs as need
+
+pub returns : need.returns
+returns c = search-narrows

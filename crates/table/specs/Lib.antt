@@ -1,0 +1,11 @@
+pub mod Blocks
+pub mod Layout
+pub mod Sizes
+pub mod Sum
+pub mod Device
+pub mod Stream
+pub mod Search
+pub mod Reading
+pub mod Writing
+pub mod Lies
+pub mod Span
