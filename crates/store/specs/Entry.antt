@@ -10,8 +10,9 @@ use Rattle.value.specs.Versions.{pick}
 use Rattle.store.specs.House.{Command, write, erase, get, range, first-key, last-key, count, flush, compact}
 use Rattle.store.specs.Promise.{Engine, Event, on, said, page, next, Act, read, put, settle, tells, done, refused, Step}
 use Rattle.store.specs.Own.{own}
-use Rattle.store.specs.declared.entry.Told.{Told}
-use Rattle.store.specs.declared.entry.Told.the-variants.{Read, Put, Settle, Tells, Done, No}
+use Rattle.store.specs.declared.told.Told.{Told}
+use Rattle.store.specs.declared.told.Told.the-variants.{No}
+use Rattle.store.specs.Acts.{Act-told}
 
 -- 0 power, of so many pages; 1 write key, moment, value; 2 erase; 3 get; 4 range, from a key on; 5 range, up to another; 6 first, 7 last, 8 count, at a moment; 9 flush;
 -- 10 compact; 11 a page; 12 go on
@@ -20,14 +21,6 @@ event-of k n as₁ bs =
     pick (eqb k 0) (on n) (pick (eqb k 1) (said (write as₁ n bs)) (pick (eqb k 2) (said (erase as₁ n)) (pick (eqb k 3) (said (get as₁ n))
     (pick (eqb k 4) (said (range as₁ [] n)) (pick (eqb k 5) (said (range as₁ (bs ∷ []) n)) (pick (eqb k 6) (said (first-key n)) (pick (eqb k 7) (said (last-key n))
     (pick (eqb k 8) (said (count n)) (pick (eqb k 9) (said flush) (pick (eqb k 10) (said (compact n)) (pick (eqb k 11) (page bs) next)))))))))))
-
-unfoldable pub Act-told : Act → Told → (out out₁ : List ℕ) → Type 0
-Act-told (read k) r out out₁ = (r ≡ Read k) × (out₁ ≡ out)
-Act-told (put k p) r out out₁ = (r ≡ Put k) × (out₁ ≡ p ++ drop (length p) out)
-Act-told settle r out out₁ = (r ≡ Settle) × (out₁ ≡ out)
-Act-told (tells t) r out out₁ = (r ≡ Tells (length t)) × (out₁ ≡ t ++ drop (length t) out)
-Act-told done r out out₁ = (r ≡ Done) × (out₁ ≡ out)
-Act-told (refused k) r out out₁ = (r ≡ No k) × (out₁ ≡ out)
 
 -- one step: for memories of the machine's own length, up to 4,096 bytes in each row, and a lent row of 1,280 numbers; for others number 0 is told and nothing is changed
 unfoldable pub Step-says : (memory : List ℕ) (kind n : ℕ) (as₁ bs out : List ℕ) → Bool → Told → (memory₁ out₁ : List ℕ) → Type 0

@@ -2,5 +2,9 @@ pub mod House
 pub mod Worked
 pub mod Promise
 pub mod Account
+pub mod Control
+pub mod Acts
+pub mod Write
+pub mod Get
 pub mod Own
 pub mod Entry

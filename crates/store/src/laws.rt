@@ -1,7 +1,6 @@
 // The laws of the store, each a function whose contract is the law.
 ghost use Rattle.store.specs.Promise.{Settled-stays, Stop-twice, Nothing-new};
 ghost use Rattle.store.specs.Account.{Steps-suffice};
-ghost use Rattle.store.specs.Own.{Own-whole};
 ghost use Rattle.store.specs.Worked.{Worked-out};
 
 // What was settled stays, whatever a stop leaves of later writes to other pages.
@@ -24,10 +23,6 @@ pub fn steps_suffice()
     ensures { λ _. ⌜ Steps-suffice ⌝ }
 {}
 
-// The machine that `step` runs keeps the main promise, for all that is said and wherever power goes.
-pub fn own_is_whole()
-    ensures { λ _. ⌜ Own-whole ⌝ }
-{}
 
 // The worked example, line by line.
 pub fn worked_out()

@@ -25,6 +25,9 @@ fill-next ms out now k x w h l y =
     let a = append-assoc (take k ms) (x ∷ []) (drop (k + 1) out) in
     cc
 
+pub fill-end : (ms out now : List ℕ) (k n : ℕ) → now ≡ take k ms ++ drop k out → k ≡ n → length ms ≡ n → now ≡ ms ++ drop n out
+fill-end ms out now k n w e l = w ∙ ap (λ k. take k ms ++ drop k out) e ∙ ap (λ z. z ++ drop n out) (take-all n ms (omega arith))
+
 getD-zeros : (n i : ℕ) → _≡_ {A = ℕ} (getD (replicate n 0) i 0) 0
 getD-zeros zero i = refl
 getD-zeros (suc n) zero = refl
