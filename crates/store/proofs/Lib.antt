@@ -6,3 +6,7 @@ pub mod EntryLaws
 pub mod WorkedLaws
 pub mod WriteLaws
 pub mod GetLaws
+pub mod MemoryLaws
+pub mod RisingLaws
+pub mod HeldLaws
+pub mod WroteLaws
