@@ -1,30 +1,21 @@
 -- What memory holds of a house between two steps: every version that came, none of them safe; and how a write keeps that.
 use mathlib.Core.Path.{_≡_, refl, sym, ap, _∙_, subst}
-use mathlib.Core.Bool.{Bool, true, false, _&&_, not}
+use mathlib.Core.Bool.{true}
 use mathlib.Core.List.{List, [], _∷_, _++_}
 use Prim.Native.Nat.{ℕ, zero, suc, _+_, _*_, _≤_, _<_}
 use native.Mathlib.Omega.{arith}
-use lib.Dec.{eqb, ltb, leb}
-use lib.ListN.{length, drop}
-use borrow.Author.Tests.{both-ways, ltb-true, ltb-false, leb-true, leb-false, lt-ltb, le-ltb, lt-leb}
-use Rattle.value.specs.Versions.{pick, or, every, any, same, Version, version, weight, kept}
+use lib.ListN.{length}
+use Rattle.value.specs.Versions.{Version}
 use Rattle.value.specs.Rising.{rising, last-moment}
-use Rattle.value.proofs.TestLaws.{clash, and-left-of, and-right-of}
-use Rattle.memtable.specs.Words.{bytes}
-use Rattle.memtable.specs.Memtable.{memtable, accepts, accepts-it, one-more, after-one, seek-place, table-after, index-after, arena-after}
-use Rattle.memtable.specs.Holds.{fits, Holds}
+use Rattle.memtable.specs.Memtable.{none}
+use Rattle.memtable.specs.Holds.{Holds}
 use Rattle.memtable.specs.declared.memtable.Memtable.{Memtable}
-use Rattle.memtable.proofs.AnswerLaws.{written-right, sizes-suffice}
-use Rattle.memtable.proofs.InsertLaws.{insert-right, room-right}
-use Rattle.store.specs.House.{House, house, a-key, written-then, write-refusal, written, unsafe, needed, full-by}
-use Rattle.store.specs.Promise.{Step, done, refused}
+use Rattle.memtable.proofs.AnswerLaws.{empty-right, sizes-suffice}
+use Rattle.store.specs.House.{House, house}
 use Rattle.store.specs.Control.{memory-words, control, control-of, put-control, index-of, arena-of}
-use Rattle.store.specs.Write.{stepped, key-size, value-size, proper-moment, not-earlier, unwritten, roomy, within-pages, in-arena, in-index, put-in, wrote}
 use Rattle.store.specs.declared.control.Phase.{Phase}
 use Rattle.store.specs.declared.control.Phase.the-variants.{Idle, Shown}
-use Rattle.store.specs.declared.control.Control.{Control}
-use Rattle.store.proofs.MemoryLaws.{length-region, region-put, length-put, control-put, length-in-arena, arena-in-arena, index-in-arena, length-in-index, index-in-index, arena-in-index}
-use Rattle.store.proofs.RisingLaws.{written-at, write-rises, last-push, kept-all}
+use Rattle.store.proofs.MemoryLaws.{region-put, length-put, control-put}
 
 pub record Held (pages : ℕ) (h : House) (p : Phase) (m : List ℕ) : Type 0 where
   pub table : Memtable
@@ -50,3 +41,39 @@ pub put-held : (m : List ℕ) (p : Phase) (pages last : ℕ) (t : Memtable) (i a
 put-held m p pages last t i a vs l f e o =
     let (n, u, w) = counts-small i a t vs o in
     control-put m p pages last t l (omega arith) (omega arith) (omega arith) (omega arith) (omega arith)
+
+-- another phase, and all else as it was
+pub held-phase : (pages : ℕ) (h : House) (p q : Phase) (m : List ℕ) (o : Held pages h p m) → Held pages h q (put-control m (control q pages (h .last) (o .table)))
+held-phase pages h p q m o =
+    let k = control q pages (h .last) (o .table) in
+    record {
+      table = o .table;
+      long = length-put m k ∙ o .long;
+      control-is = put-held m q pages (h .last) (o .table) (index-of m) (arena-of m) (h .versions) (o .long) (o .few) (o .early) (o .holds);
+      holds = subst (λ x. Holds x (arena-of (put-control m k)) (o .table) (h .versions)) (sym (region-put 64 16384 m k (omega arith)))
+          (subst (λ x. Holds (index-of m) x (o .table) (h .versions)) (sym (region-put 16448 131072 m k (omega arith))) (o .holds));
+      rises = o .rises;
+      last-is = o .last-is;
+      early = o .early;
+      few = o .few;
+      none-safe = o .none-safe;
+      none-low = o .none-low;
+    }
+
+-- power is there: memory holds the empty house
+pub held-empty : (pages : ℕ) (m : List ℕ) → length m ≡ memory-words → pages ≤ 1048576 → Held pages (house [] [] 0 0) Idle (put-control m (control Idle pages 0 none))
+unfolding rising last-moment
+held-empty pages m l f =
+    let k = control Idle pages 0 none in
+    record {
+      table = none;
+      long = length-put m k ∙ l;
+      control-is = control-put m Idle pages 0 none l (omega arith) (omega arith) (omega arith) (omega arith) (omega arith);
+      holds = empty-right (index-of (put-control m k)) (arena-of (put-control m k));
+      rises = refl;
+      last-is = refl;
+      early = omega arith;
+      few = f;
+      none-safe = refl;
+      none-low = refl;
+    }

@@ -10,3 +10,4 @@ pub mod MemoryLaws
 pub mod RisingLaws
 pub mod HeldLaws
 pub mod WroteLaws
+pub mod GotLaws
