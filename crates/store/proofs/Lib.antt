@@ -11,3 +11,4 @@ pub mod RisingLaws
 pub mod HeldLaws
 pub mod WroteLaws
 pub mod GotLaws
+pub mod SteadyLaws
