@@ -12,3 +12,4 @@ pub mod HeldLaws
 pub mod WroteLaws
 pub mod GotLaws
 pub mod SteadyLaws
+pub mod OwnAccount
