@@ -13,3 +13,4 @@ pub mod WroteLaws
 pub mod GotLaws
 pub mod SteadyLaws
 pub mod OwnAccount
+pub mod WriteServes
