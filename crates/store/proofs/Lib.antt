@@ -14,3 +14,5 @@ pub mod GotLaws
 pub mod SteadyLaws
 pub mod OwnAccount
 pub mod WriteServes
+pub mod GetServes
+pub mod OwnLaws

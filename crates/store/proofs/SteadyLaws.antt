@@ -108,11 +108,12 @@ unfolding put-in in-arena in-index
 put-in-keeps m k place t v l u =
     let m₁ = in-arena (k .table .used) v m in
     let m₂ = in-index (k .table) place m₁ in
-    let l₁ : length m₁ ≡ memory-words = length-in-arena m l (k .table .used) v ∙ l in
-    (length-put m₂ _ ∙ length-in-index m₁ l₁ (k .table) place ∙ length-in-arena m l (k .table .used) v,
-    λ a.
-    let s₁ : all-small m₁ ≡ true = small-within 16448 131072 _ m a (from-small _ (append-keeps (arena-of m) (k .table .used) v .1 (as-small _ (small-region 16448 131072 m a)))) in
-    small-put m₂ _ (small-within 64 16384 _ m₁ s₁ (from-small _ (enter-keeps (index-of m₁) (k .table .versions) place (k .table .used) .1 (u a) (as-small _ (small-region 64 16384 m₁ s₁))))))
+    let l₁ : length m₁ ≡ memory-words = length-in-arena m l (k .table .used) v ∙ l in (
+      length-put m₂ _ ∙ length-in-index m₁ l₁ (k .table) place ∙ length-in-arena m l (k .table .used) v,
+      λ a.
+          let s₁ : all-small m₁ ≡ true = small-within 16448 131072 _ m a (from-small _ (append-keeps (arena-of m) (k .table .used) v .1 (as-small _ (small-region 16448 131072 m a)))) in
+          small-put m₂ _ (small-within 64 16384 _ m₁ s₁ (from-small _ (enter-keeps (index-of m₁) (k .table .versions) place (k .table .used) .1 (u a) (as-small _ (small-region 64 16384 m₁ s₁))))),
+    )
 
 wrote-keeps : (m : List ℕ) (k : Control) (v : Version) → length m ≡ memory-words → (all-small m ≡ true → k .table .used < 18446744073709551616) → Keeps m (wrote k m v)
 unfolding wrote

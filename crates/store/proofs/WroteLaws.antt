@@ -150,15 +150,15 @@ module _ (pages : ℕ) (h : House) (m : List ℕ) (v : Version) (o : Held pages 
       let up : rising (h .versions ++ v ∷ []) ≡ true = write-rises (h .versions) v (o .rises) (omega (arith, o .last-is)) w in
       let ins = insert-right (index-of m) (arena-of m) t (h .versions) v (o .holds) f up it in
       let ei : index-of (put-control m₂ k) ≡ index-after t (index-of m) (arena-of m) v =
-          region-put 64 16384 m₂ k (omega arith) ∙ index-in-index m₁ l₁ t place ∙ ap (λ x. entered x (t .versions) place (t .used)) (index-in-arena m (o .long) (t .used) v)
-          ∙ index-accepted t (index-of m) (arena-of m) v it in
+      region-put 64 16384 m₂ k (omega arith) ∙ index-in-index m₁ l₁ t place ∙ ap (λ x. entered x (t .versions) place (t .used)) (index-in-arena m (o .long) (t .used) v)
+      ∙ index-accepted t (index-of m) (arena-of m) v it in
       let ea : arena-of (put-control m₂ k) ≡ arena-after t (index-of m) (arena-of m) v =
-          region-put 16448 131072 m₂ k (omega arith) ∙ arena-in-index m₁ l₁ t place ∙ arena-in-arena m (o .long) (t .used) v ∙ arena-accepted t (index-of m) (arena-of m) v it in
+      region-put 16448 131072 m₂ k (omega arith) ∙ arena-in-index m₁ l₁ t place ∙ arena-in-arena m (o .long) (t .used) v ∙ arena-accepted t (index-of m) (arena-of m) v it in
       let et = table-accepted t (index-of m) (arena-of m) v it in
       let new : Holds (index-of (put-control m₂ k)) (arena-of (put-control m₂ k)) (one-more t (length (v .key)) (length (v .value))) (h .versions ++ v ∷ []) =
-          subst (λ x. Holds x (arena-of (put-control m₂ k)) (one-more t (length (v .key)) (length (v .value))) (h .versions ++ v ∷ [])) (sym ei)
-          (subst (λ x. Holds (index-after t (index-of m) (arena-of m) v) x (one-more t (length (v .key)) (length (v .value))) (h .versions ++ v ∷ [])) (sym ea)
-          (subst (λ x. Holds (index-after t (index-of m) (arena-of m) v) (arena-after t (index-of m) (arena-of m) v) x (h .versions ++ v ∷ [])) (sym et) ins)) in
+      subst (λ x. Holds x (arena-of (put-control m₂ k)) (one-more t (length (v .key)) (length (v .value))) (h .versions ++ v ∷ [])) (sym ei)
+      (subst (λ x. Holds (index-after t (index-of m) (arena-of m) v) x (one-more t (length (v .key)) (length (v .value))) (h .versions ++ v ∷ [])) (sym ea)
+      (subst (λ x. Holds (index-after t (index-of m) (arena-of m) v) (arena-after t (index-of m) (arena-of m) v) x (h .versions ++ v ∷ [])) (sym et) ins)) in
       let s = ltb-true (v .moment) 9223372036854775808 g in
       record {
         table = one-more t (length (v .key)) (length (v .value));

@@ -66,8 +66,8 @@ put-in k place t v m =
 unfoldable pub wrote : Control → List ℕ → Version → Step
 wrote k m v =
     checked (key-size (v .key)) 6 m (λ kl. checked (value-size (v .value)) 6 m (λ vl. checked (proper-moment (v .moment)) 6 m (λ s.
-        checked (not-earlier (k .last) s) 3 m (λ s₁. checked (unwritten (k .table) m (v .key) s₁) 3 m (λ place.
-            checked (roomy (k .table) kl vl) 7 m (λ t. checked (within-pages (k .pages) (t .weight)) 8 m (λ w. stepped (put-in k place t (version (v .key) s₁ (v .gone) (v .value)) m) done)))))))
+    checked (not-earlier (k .last) s) 3 m (λ s₁. checked (unwritten (k .table) m (v .key) s₁) 3 m (λ place.
+    checked (roomy (k .table) kl vl) 7 m (λ t. checked (within-pages (k .pages) (t .weight)) 8 m (λ w. stepped (put-in k place t (version (v .key) s₁ (v .gone) (v .value)) m) done)))))))
 
 -- the same of the code: the act is one that needs no row
 unfoldable pub Wrote : Control → List ℕ → Version → Told → List ℕ → Type 0

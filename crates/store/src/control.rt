@@ -49,7 +49,11 @@ pub fn load(memory: &[u64]) -> Control
         phase: phase_from(memory[0]),
         pages: memory[1],
         last: memory[2],
-        table: Memtable { versions: memory[3], used: memory[4], weight: memory[5] },
+        table: Memtable {
+            versions: memory[3],
+            used: memory[4],
+            weight: memory[5],
+        },
     }
 }
 

@@ -34,7 +34,15 @@ fn power(memory: &mut [u64], pages: u64) -> Told
     requires { ⌜ length (now memory) ≡ 147520 ⌝ }
     ensures { λ r. ⌜ ((out : List ℕ) → Got (powered (now (memory .entry)) pages) r out (now (memory .exit)) out) ⌝ }
 {
-    save(memory, Control { phase: Phase::Idle, pages, last: 0, table: empty() });
+    save(
+        memory,
+        Control {
+            phase: Phase::Idle,
+            pages,
+            last: 0,
+            table: empty(),
+        },
+    );
     Told::Done
 }
 
@@ -45,14 +53,28 @@ fn go_on(memory: &mut [u64], control: Control) -> Told
 {
     match control.phase {
         Phase::Shown => {
-            save(memory, Control { phase: Phase::Idle, ..control });
+            save(
+                memory,
+                Control {
+                    phase: Phase::Idle,
+                    ..control
+                },
+            );
             Told::Done
         }
         Phase::Idle => Told::No(2),
     }
 }
 
-fn take_turn(memory: &mut [u64], control: Control, kind: u64, n: u64, one: &[u8], two: &[u8], out: &mut [u64]) -> Told
+fn take_turn(
+    memory: &mut [u64],
+    control: Control,
+    kind: u64,
+    n: u64,
+    one: &[u8],
+    two: &[u8],
+    out: &mut [u64],
+) -> Told
     requires { ⌜ length (now memory) ≡ 147520 ⌝ ∗ ⌜ 1280 ≤ length (now out) ⌝ ∗ ⌜ kind ≤ 12 ⌝ }
     ensures { λ r. ⌜ Got (turned control (now (memory .entry)) (event-of kind n (now (one .entry)) (now (two .entry)))) r (now (out .entry)) (now (memory .exit)) (now (out .exit)) ⌝ }
 {

@@ -19,7 +19,9 @@ fn find(memory: &[u64], control: Control, key: &[u8], moment: u64) -> Option<u64
     requires { ⌜ length (now memory) ≡ 147520 ⌝ }
     ensures { λ r. ⌜ r ≡ sought control (now (memory .entry)) (now (key .entry)) moment ⌝ }
 {
-    control.table.find(&memory[64..16448], &memory[16448..147520], key, moment)
+    control
+        .table
+        .find(&memory[64..16448], &memory[16448..147520], key, moment)
 }
 
 // How many numbers the row of a version has.
@@ -67,6 +69,12 @@ pub fn get(memory: &mut [u64], control: Control, key: &[u8], moment: u64, out: &
         return Told::Done;
     }
     let len = write_row(&memory[16448..147520], place, out);
-    save(memory, Control { phase: Phase::Shown, ..control });
+    save(
+        memory,
+        Control {
+            phase: Phase::Shown,
+            ..control
+        },
+    );
     Told::Tells(len)
 }

@@ -1,6 +1,7 @@
 // The laws of the store, each a function whose contract is the law.
 ghost use Rattle.store.specs.Promise.{Settled-stays, Stop-twice, Nothing-new};
 ghost use Rattle.store.specs.Account.{Steps-suffice};
+ghost use Rattle.store.specs.Own.{Own-whole};
 ghost use Rattle.store.specs.Worked.{Worked-out};
 
 // What was settled stays, whatever a stop leaves of later writes to other pages.
@@ -23,8 +24,12 @@ pub fn steps_suffice()
     ensures { λ _. ⌜ Steps-suffice ⌝ }
 {}
 
-
 // The worked example, line by line.
 pub fn worked_out()
     ensures { λ _. ⌜ Worked-out ⌝ }
+{}
+
+// The machine that `step` runs keeps the main promise, for all that is said and wherever power goes.
+pub fn own_is_whole()
+    ensures { λ _. ⌜ Own-whole ⌝ }
 {}

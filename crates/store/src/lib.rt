@@ -9,6 +9,7 @@ mod write;
 pub use entry::MEMORY;
 pub use entry::step;
 pub use laws::nothing_new;
+pub use laws::own_is_whole;
 pub use laws::settled_stays;
 pub use laws::steps_suffice;
 pub use laws::stop_twice;

@@ -16,20 +16,32 @@ fn key_size(key: &[u8]) -> Option<u64>
     ensures { λ r. ⌜ r ≡ key-size (now (key .entry)) ⌝ }
 {
     let n = key.len();
-    if n < 1 || n > 255 { None } else { Some(n as u64) }
+    if n < 1 || n > 255 {
+        None
+    } else {
+        Some(n as u64)
+    }
 }
 
 // The length of a value that may be written.
 fn value_size(value: &[u8]) -> Option<u64>
     ensures { λ r. ⌜ r ≡ value-size (now (value .entry)) ⌝ }
 {
-    if value.len() > 1024 { None } else { Some(value.len() as u64) }
+    if value.len() > 1024 {
+        None
+    } else {
+        Some(value.len() as u64)
+    }
 }
 
 fn proper_moment(moment: u64) -> Option<u64>
     ensures { λ r. ⌜ r ≡ proper-moment moment ⌝ }
 {
-    if moment < 0x8000_0000_0000_0000 { Some(moment) } else { None }
+    if moment < 0x8000_0000_0000_0000 {
+        Some(moment)
+    } else {
+        None
+    }
 }
 
 // A moment that is not below the last write's.
@@ -66,7 +78,11 @@ fn roomy(table: Memtable, key: u64, value: u64) -> Option<Memtable>
 fn within_pages(pages: u64, weight: u64) -> Option<u64>
     ensures { λ r. ⌜ r ≡ within-pages pages weight ⌝ }
 {
-    if weight > pages.saturating_mul(128) { None } else { Some(weight) }
+    if weight > pages.saturating_mul(128) {
+        None
+    } else {
+        Some(weight)
+    }
 }
 
 fn put_in_arena(memory: &mut [u64], used: u64, key: &[u8], moment: u64, gone: bool, value: &[u8])
@@ -98,7 +114,15 @@ fn put_version(
 {
     put_in_arena(memory, control.table.used, key, moment, gone, value);
     put_in_index(memory, control.table, place);
-    save(memory, Control { phase: Phase::Idle, last: moment, table, ..control });
+    save(
+        memory,
+        Control {
+            phase: Phase::Idle,
+            last: moment,
+            table,
+            ..control
+        },
+    );
 }
 
 // Writes a version into memory, or says why not.

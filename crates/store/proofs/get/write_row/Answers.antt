@@ -19,5 +19,5 @@ loop-i-again c =
 pub returns : need.returns
 returns c = record {
   len = c .row-len-len .ensures;
-  row = fill-end (row-at (c .args .arena .now) (c .args .place)) (c .args .out .now) (c .loop-i .out) (c .loop-i .i) _ (c .loop-i .inv) (omega (arith, c .row-len-len .ensures)) refl
+  row = fill-end (row-at (c .args .arena .now) (c .args .place)) (c .args .out .now) (c .loop-i .out) (c .loop-i .i) _ (c .loop-i .inv) (omega (arith, c .row-len-len .ensures)) refl;
 }

@@ -4,7 +4,7 @@ use Rattle.store.proofs.WriteLaws.{bad-key, bad-value, bad-moment, too-early, 
 use Rattle.store.proofs.write.write.Needs as need
 
 pub returns-in-rest : need.returns-in-rest
-returns-in-rest c = bad-key (c .args .control) (c .args .memory .now) (version (c .args .key .now) (c .args .moment) (c .args .gone) (c .args .value .now))  (sym (c .key-size .ensures) ∙ c .in-rest .is)
+returns-in-rest c = bad-key (c .args .control) (c .args .memory .now) (version (c .args .key .now) (c .args .moment) (c .args .gone) (c .args .value .now)) (sym (c .key-size .ensures) ∙ c .in-rest .is)
 
 pub returns-in-rest-value-size : need.returns-in-rest-value-size
 returns-in-rest-value-size c = bad-value (c .args .control) (c .args .memory .now) (version (c .args .key .now) (c .args .moment) (c .args .gone) (c .args .value .now)) (c .in-Some .key-len) (sym (c .key-size .ensures) ∙ c .in-Some .is) (sym (c .value-size .ensures) ∙ c .in-rest-value-size .is)
