@@ -27,11 +27,9 @@ fn hex(digit: u8) -> u8 {
     }
 }
 
-// A byte as it stands in quotes.
+// A byte as it is shown: printable ASCII as itself.
 fn push_shown(text: &mut Vec<u8>, b: u8) -> Result<(), AllocError> {
     match b {
-        b'"' => text.extend_from_slice(b"\\\""),
-        b'\\' => text.extend_from_slice(b"\\\\"),
         b' '..=b'~' => text.extend_from_slice(&[b]),
         _ => text.extend_from_slice(&[b'\\', b'x', hex(b / 16), hex(b)]),
     }
