@@ -111,6 +111,11 @@ merge-runs (r ∷ rs) = merge r (merge-runs rs)
 abbrev pub visible : ℕ → List Version → List Version
 visible s vs = visible-from s [] false vs
 
+-- of each of these keys the latest version below a moment, an erasure too
+unfoldable pub latest-of : List Version → ℕ → List (List ℕ) → List Version
+latest-of vs s [] = []
+latest-of vs s (k ∷ ks) = latest vs k s ++ latest-of vs s ks
+
 -- THE STATEMENTS. A table is in order, with what came, no more and no less.
 abbrev pub Sort-orders : Type 0
 Sort-orders = (vs : List Version) → rising vs ≡ true → in-order (sort vs) ≡ true

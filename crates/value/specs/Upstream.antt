@@ -12,9 +12,9 @@ use Prim.Native.Nat.{ℕ}
 use Prim.Native.String.{String}
 use lib.Chars.{codes}
 use lib.Dec.{leb}
-use Rattle.value.specs.Versions.{pick, every, each, Version, version, latest, all-keys, kept}
+use Rattle.value.specs.Versions.{pick, every, each, Version, version, all-keys, kept}
 use Rattle.value.specs.Rising.{rising}
-use Rattle.value.specs.Sorted.{sort}
+use Rattle.value.specs.Sorted.{sort, latest-of}
 
 abbrev pub put : String → ℕ → String → Version
 put k m v = version (codes k) m false (codes v)
@@ -29,10 +29,6 @@ arrives v (u ∷ us) = pick (leb (v .moment) (u .moment)) (v ∷ u ∷ us) (u �
 abbrev pub arrived : List Version → List Version
 arrived [] = []
 arrived (v ∷ vs) = arrives v (arrived vs)
-
-abbrev pub latest-of : List Version → ℕ → List (List ℕ) → List Version
-latest-of vs s [] = []
-latest-of vs s (k ∷ ks) = latest vs k s ++ latest-of vs s ks
 
 abbrev pub newest : List Version → ℕ → List Version
 newest vs s = latest-of vs s (all-keys vs)

@@ -1,0 +1,3 @@
+pub mod PageLaws
+pub mod PlaceLaws
+pub mod CommitLaws

@@ -1,0 +1,3 @@
+pub mod Manifest
+pub mod Places
+pub mod Commit
