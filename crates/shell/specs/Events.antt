@@ -4,7 +4,7 @@
 --   Says, Tells  the step of a command, and of any event
 use mathlib.Core.List.{List, [], _∷_}
 use Prim.Native.Nat.{ℕ}
-use Rattle.store.specs.declared.entry.Told.{Told}
+use Rattle.store.specs.declared.told.Told.{Told}
 use Rattle.store.specs.Entry.{Step-says, step-fits}
 use Rattle.std.specs.declared.option.Option.the-variants.{Some, None}
 use Rattle.shell.specs.declared.command.Command.{Command}

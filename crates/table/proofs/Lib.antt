@@ -10,3 +10,4 @@ pub mod WritingLaws
 pub mod LieLaws
 pub mod FillLaws
 pub mod DeviceLaws
+pub mod LoadLaws

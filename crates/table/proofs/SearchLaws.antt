@@ -7,13 +7,15 @@ use Prim.Native.Nat.{ℕ, zero, suc, _+_, _-_, _*_, _/_, _%_, _≤_, _<_}
 use native.Mathlib.Omega.{arith}
 use lib.ListN.{length, take, drop, getD}
 use Rattle.std.proofs.shelf.Lists.{length-drop}
-use Rattle.value.specs.Versions.{pick, Version}
-use Rattle.value.specs.Sorted.{in-order, lookup}
-use Rattle.value.proofs.TestLaws.{clash}
+use Rattle.value.specs.Versions.{pick, every, same, before, Version}
+use lib.Dec.{ltb}
+use Rattle.value.specs.Sorted.{comes-first, in-order, lookup}
+use Rattle.value.proofs.TestLaws.{clash, and-left-of, and-right-of, or-cases}
+use Rattle.value.proofs.KeyLaws.{same-eq, before-trans}
 use Rattle.table.specs.Blocks.{no-bound, bound-of, ahead, last-one, not-ahead}
 use Rattle.table.specs.Sizes.{joined, Some-in}
-use Rattle.table.specs.Search.{ahead-first, ahead-at, Between, middle, narrowed, Search-narrows, Search-ends}
-use Rattle.table.proofs.BlockLaws.{order-front, block-decides, none-decides, ahead-falls}
+use Rattle.table.specs.Search.{head-before, Heads-rise, ahead-first, ahead-at, Between, middle, narrowed, Search-narrows, Search-ends}
+use Rattle.table.proofs.BlockLaws.{order-back, block-decides, none-decides, ahead-falls}
 
 joined-append : (xs ys : List (List Version)) → joined (xs ++ ys) ≡ joined xs ++ joined ys
 unfolding joined
@@ -130,3 +132,52 @@ search-ends k s bs n o sm l b = (none, some)
         ap (λ x. lookup x k s) q
         ∙ block-found k s (joined (take m bs)) (getD bs m []) (joined (drop (suc m) bs)) (sym (ap in-order q) ∙ o) l (b .before m (omega arith))
         (subst (λ x. not-ahead k s (last-one [] x) (joined (drop (suc m) bs))) (take-suc-joined bs m h) rest)
+
+-- FROM THE BACK
+every-behind : (f : Version → Bool) (xs : List Version) (w : Version) (ws : List Version) → every f (xs ++ w ∷ ws) ≡ true → (f w && every f ws) ≡ true
+unfolding every
+every-behind f [] w ws h = h
+every-behind f (x ∷ xs) w ws h = every-behind f xs w ws (and-right-of (f x) (every f (xs ++ w ∷ ws)) h)
+
+first-before : (k : List ℕ) (v w : Version) → comes-first v w ≡ true → before (w .key) k ≡ true → before (v .key) k ≡ true
+first-before k v w c b = go (or-cases (before (v .key) (w .key)) _ c)
+  where
+    go : (before (v .key) (w .key) ≡ true) ⊎ ((same (v .key) (w .key) && ltb (w .moment) (v .moment)) ≡ true) → before (v .key) k ≡ true
+    go (inl x) = before-trans (v .key) (w .key) k x b
+    go (inr x) = ap (λ j. before j k) (same-eq (v .key) (w .key) (and-left-of (same (v .key) (w .key)) (ltb (w .moment) (v .moment)) x)) ∙ b
+
+-- of a version and one that stands behind it
+head-first : (v : Version) (vs : List Version) (w : Version) (ws : List Version) → in-order (v ∷ (vs ++ (w ∷ ws))) ≡ true → comes-first v w ≡ true
+unfolding in-order
+head-first v vs w ws o = at vs (and-left-of (every (comes-first v) (vs ++ w ∷ ws)) (in-order (vs ++ w ∷ ws)) o)
+  where
+    at : (us : List Version) → every (comes-first v) (us ++ w ∷ ws) ≡ true → comes-first v w ≡ true
+    at us h = and-left-of (comes-first v w) (every (comes-first v) ws) (behind-all us h)
+      where
+        behind-all : (xs : List Version) → every (comes-first v) (xs ++ w ∷ ws) ≡ true → (comes-first v w && every (comes-first v) ws) ≡ true
+        behind-all xs g = every-behind (comes-first v) xs w ws g
+
+head-falls : (k : List ℕ) (us vb wb ws : List Version) → in-order (us ++ vb ++ (wb ++ ws)) ≡ true → 0 < length vb → 0 < length wb → head-before k wb ≡ true → head-before k vb ≡ true
+unfolding head-before
+head-falls k us [] wb ws o h g a = absurd (omega arith)
+head-falls k us (v ∷ vs) [] ws o h g a = absurd (omega arith)
+head-falls k us (v ∷ vs) (w ∷ wb) ws o h g a =
+    let o₁ : in-order (us ++ (v ∷ (vs ++ (w ∷ (wb ++ ws))))) ≡ true = rw append-assoc at o in
+    first-before k v w (head-first v vs w (wb ++ ws) (order-back us (v ∷ (vs ++ (w ∷ (wb ++ ws)))) o₁)) a
+
+head-back : (k : List ℕ) (bs : List (List Version)) (i : ℕ) → in-order (joined bs) ≡ true → Some-in bs → suc i < length bs → head-before k (getD bs (suc i) []) ≡ true → head-before k (getD bs i []) ≡ true
+head-back k bs i o sm h a =
+    let e = take-suc-joined bs i (omega arith) in
+    let q : joined bs ≡ joined (take i bs) ++ getD bs i [] ++ (getD bs (suc i) [] ++ joined (drop (suc (suc i)) bs)) =
+    joined-split bs (suc i) h ∙ append-assoc (joined (take (suc i) bs)) (getD bs (suc i) []) (joined (drop (suc (suc i)) bs))
+    ∙ ap (λ x. x ++ (getD bs (suc i) [] ++ joined (drop (suc (suc i)) bs))) e in
+    head-falls k (joined (take i bs)) (getD bs i []) (getD bs (suc i) []) (joined (drop (suc (suc i)) bs)) (sym (ap in-order q) ∙ o) (some-at bs i sm (omega arith)) (some-at bs (suc i) sm h) a
+
+head-all : (k : List ℕ) (bs : List (List Version)) (i d : ℕ) → in-order (joined bs) ≡ true → Some-in bs → i + d < length bs → head-before k (getD bs (i + d) []) ≡ true → head-before k (getD bs i []) ≡ true
+head-all k bs i zero o sm h a = let z : i + 0 ≡ i = omega arith in rw z at a
+head-all k bs i (suc d) o sm h a =
+    let z : i + suc d ≡ suc (i + d) = omega arith in
+    head-all k bs i d o sm (omega arith) (head-back k bs (i + d) o sm (omega arith) (rw z at a))
+
+pub heads-rise : Heads-rise
+heads-rise k bs i j o sm l h a = let z : i + (j - i) ≡ j = omega arith in head-all k bs i (j - i) o sm (omega arith) (rw z a)

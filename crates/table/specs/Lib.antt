@@ -9,3 +9,4 @@ pub mod Reading
 pub mod Writing
 pub mod Lies
 pub mod Span
+pub mod Load

@@ -7,7 +7,7 @@ use mathlib.Core.Bool.{Bool, true, false}
 use mathlib.Core.List.{List, [], _∷_, _++_}
 use Prim.Native.Nat.{ℕ, zero, suc, _+_, _/_, min, _≤_, _<_}
 use lib.ListN.{length, take, drop, getD}
-use Rattle.value.specs.Versions.{pick, Version}
+use Rattle.value.specs.Versions.{pick, every, before, Version}
 use Rattle.value.specs.Sorted.{in-order, lookup}
 use Rattle.table.specs.Blocks.{no-bound, bound-of, ahead, last-one}
 use Rattle.table.specs.Sizes.{joined, Some-in}
@@ -45,3 +45,14 @@ abbrev pub Search-ends : Type 0
 Search-ends =
     (k : List ℕ) (s : ℕ) (bs : List (List Version)) (n : ℕ) → in-order (joined bs) ≡ true → Some-in bs → s ≤ no-bound → Between k s bs n n →
     (n ≡ 0 → lookup (joined bs) k s ≡ []) × ((m : ℕ) → n ≡ suc m → lookup (joined bs) k s ≡ lookup (getD bs m []) k s)
+
+-- FROM THE BACK: is the head of block number i before a key?
+unfoldable pub head-before : List ℕ → List Version → Bool
+head-before k [] = false
+head-before k (v ∷ vs) = before (v .key) k
+
+-- It is, of every block before one of which it is; behind one of which it is not, no key is before that key.
+abbrev pub Heads-rise : Type 0
+Heads-rise =
+    (k : List ℕ) (bs : List (List Version)) (i j : ℕ) → in-order (joined bs) ≡ true → Some-in bs → i ≤ j → j < length bs →
+    head-before k (getD bs j []) ≡ true → head-before k (getD bs i []) ≡ true

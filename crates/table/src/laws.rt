@@ -4,7 +4,8 @@ ghost use Rattle.table.specs.Stream.{Pages-sound, Stream-back, Span-read};
 ghost use Rattle.table.specs.Layout.{Stream-is-blocks, Entries-are-blocks};
 ghost use Rattle.table.specs.Sizes.{Blocks-hold, Blocks-short, Block-stands, Table-fits};
 ghost use Rattle.table.specs.Reading.{Block-reads, Head-reads, Block-finds};
-ghost use Rattle.table.specs.Search.{Search-narrows, Search-ends};
+ghost use Rattle.table.specs.Search.{Search-narrows, Search-ends, Heads-rise};
+ghost use Rattle.table.specs.Load.{Spans-short, Load-goes-on};
 ghost use Rattle.table.specs.Writing.{Writer-begins, Writer-takes, Writer-puts, Writer-gives, Writer-ends};
 ghost use Rattle.table.specs.Lies.{Lies-elsewhere, Entry-read, Block-read};
 
@@ -126,4 +127,19 @@ pub fn entry_read()
 // A block's bytes are read from the few pages that they lie on.
 pub fn block_read()
     ensures { λ _. ⌜ Block-read ⌝ }
+{}
+
+// A block is on at most four pages, a head on at most two.
+pub fn spans_short()
+    ensures { λ _. ⌜ Spans-short ⌝ }
+{}
+
+// Page after page a row's front is the payloads of the pages.
+pub fn load_goes_on()
+    ensures { λ _. ⌜ Load-goes-on ⌝ }
+{}
+
+// From the back: heads before a key stand in front of the others.
+pub fn heads_rise()
+    ensures { λ _. ⌜ Heads-rise ⌝ }
 {}
