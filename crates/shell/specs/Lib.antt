@@ -1,2 +1,4 @@
-pub mod Planned
-pub mod Waits
+pub mod Commands
+pub mod Events
+pub mod Orders
+pub mod Words

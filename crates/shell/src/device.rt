@@ -1,10 +1,7 @@
 // A file of pages. A page that is put waits in memory until all that wait are settled, or until power goes.
-ghost use Rattle.std.specs.Prelude.{◌≡◌, IfOk, nat_lt};
-ghost use Rattle.shell.specs.Waits.{with_page};
-
+use crate::order::Part;
 use crate::trouble::Trouble;
-use orders::Part;
-use spelling::pages_in;
+use std::alloc::Global;
 use std::collections::BTreeMap;
 use std::fs::{File, OpenOptions};
 use std::io;
@@ -16,6 +13,10 @@ pub const PAGE: usize = 512;
 // What of a page is written at once, whatever happens.
 const HALF: usize = 256;
 
+const FEWEST: u64 = 64;
+
+const MOST: u64 = 1_048_576;
+
 #[derive(Drop)]
 struct Waiting {
     at: u64,
@@ -25,10 +26,24 @@ struct Waiting {
 #[derive(Drop)]
 pub struct Device {
     file: File,
-    pub pages: u64,
+    pages: u64,
     queue: Vec<Waiting>,
     // Where in the queue the newest write of a page stands.
     newest: BTreeMap<u64, usize>,
+}
+
+// May a device have so many pages?
+pub fn is_size(pages: u64) -> bool {
+    FEWEST <= pages && pages <= MOST
+}
+
+// The number of pages in so many bytes, if a device may have it.
+fn pages_in(bytes: u64) -> Option<u64> {
+    if bytes % 512 == 0 && is_size(bytes / 512) {
+        Some(bytes / 512)
+    } else {
+        None
+    }
 }
 
 // Makes what the folder says of a new file durable.
@@ -124,6 +139,10 @@ impl Device {
         })
     }
 
+    pub fn pages(&self) -> u64 {
+        self.pages
+    }
+
     // The newest write of a page, if it waits.
     fn waiting(&self, at: u64) -> Option<&Waiting> {
         match self.newest.get(&at) {
@@ -138,10 +157,8 @@ impl Device {
     }
 
     // Reads a page as its newest write has it, and says whether there is one.
-    pub fn read(&mut self, at: u64, page: &mut [u8; PAGE]) -> Result<bool, Trouble>
-        ensures { IfOk result (λ b. b ≡ nat_lt at self.old.pages) }
-    {
-        if self.pages <= at {
+    pub fn read(&mut self, at: u64, page: &mut [u8; PAGE]) -> Result<bool, Trouble> {
+        if at >= self.pages {
             return Ok(false);
         }
         if let Some(waiting) = self.waiting(at) {
@@ -155,10 +172,7 @@ impl Device {
     }
 
     // Lets a page wait, and says whether there is a page of that number.
-    pub fn put(&mut self, at: u64, page: [u8; PAGE]) -> Result<bool, Trouble>
-        ensures there { IfOk result (λ b. b ≡ nat_lt at self.old.pages) }
-        ensures waits { IfOk result (λ b. self.new.queue.items ≡ with_page b at page self.old.queue.items) }
-    {
+    pub fn put(&mut self, at: u64, page: [u8; PAGE]) -> Result<bool, Trouble> {
         if at >= self.pages {
             return Ok(false);
         }

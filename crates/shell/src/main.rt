@@ -1,12 +1,15 @@
 // The store at a keyboard, over a file of pages: one command to a line.
 mod answer;
+mod command;
 mod device;
+mod flaw;
+mod name;
 mod options;
+mod order;
 mod session;
 mod trouble;
+mod words;
 
-use lines::{is_comment, split, without_newline};
-use orders::{Order, parse};
 use std::fs::{File, OpenOptions};
 use std::io;
 use std::io::{BufRead, BufReader};
@@ -15,15 +18,15 @@ use std::io::{BufRead, BufReader};
 fn follow(
     rt: &HostRuntime,
     session: &mut session::Session,
-    asked: Order<'_>,
+    asked: order::Order<'_>,
 ) -> Result<bool, trouble::Trouble> {
     match asked {
-        Order::Pass => {}
-        Order::Say(said) => session.say(rt, said)?,
-        Order::Power => session.power(rt, &[])?,
-        Order::PowerAfter(cut) => session.plan(cut),
-        Order::Help => answer::show_help(rt)?,
-        Order::Quit => return Ok(false),
+        order::Order::Pass => {}
+        order::Order::Say(said) => session.say(rt, said)?,
+        order::Order::Power => session.power(rt, &[])?,
+        order::Order::PowerAfter(cut) => session.plan(cut),
+        order::Order::Help => answer::show_help(rt)?,
+        order::Order::Quit => return Ok(false),
     }
     Ok(true)
 }
@@ -34,22 +37,29 @@ fn take_line(
     session: &mut session::Session,
     line: &[u8],
 ) -> Result<bool, trouble::Trouble> {
-    if is_comment(line) {
+    if words::is_comment(line) {
         return Ok(true);
     }
-    let words = match split(rt.alloc(), line) {
+    let words = match words::split(rt.alloc(), line) {
         Ok(words) => words,
         Err(flaw) => {
-            answer::show_unreadable(rt, flaw.reason())?;
+            answer::show_flaw(rt, flaw)?;
             return Ok(true);
         }
     };
-    match parse(rt.alloc(), words.as_slice()) {
+    match order::parse(rt.alloc(), words.as_slice()) {
         Ok(asked) => follow(rt, session, asked),
         Err(flaw) => {
-            answer::show_unreadable(rt, flaw.reason())?;
+            answer::show_flaw(rt, flaw)?;
             Ok(true)
         }
+    }
+}
+
+fn without_newline(line: &[u8]) -> &[u8] {
+    match line {
+        [rest @ .., b'\n'] => rest,
+        _ => line,
     }
 }
 
@@ -77,11 +87,11 @@ fn say_late(rt: &HostRuntime, late: u64) -> io::Result<()> {
 }
 
 fn work(rt: &HostRuntime) -> Result<(), trouble::Trouble> {
-    let called = options::Called::from_args(rt)?;
-    let device = device::Device::open(rt, called.path.as_str(), called.options.pages)?;
-    let mut session = session::Session::open(rt, device, called.options.with_acts)?;
+    let options = options::Options::from_args(rt)?;
+    let device = device::Device::open(rt, options.path.as_str(), options.pages)?;
+    let mut session = session::Session::open(rt, device, options.with_acts)?;
     talk(rt, &mut session)?;
-    let _ = say_late(rt, session.late);
+    let _ = say_late(rt, session.late());
     Ok(())
 }
 

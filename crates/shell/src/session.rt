@@ -1,14 +1,12 @@
 // Runs commands: the machine is told an event, does one act, and is told what came of it, until the command has ended or power goes.
-ghost use Rattle.std.specs.Prelude.{◌≡◌};
-ghost use Rattle.shell.specs.Planned.{planned};
+ghost use Rattle.shell.specs.Events.{Says, Tells};
 
 use crate::answer;
+use crate::answer::Acts;
+use crate::command::Command;
 use crate::device::{Device, PAGE};
+use crate::order::{Cut, Part};
 use crate::trouble::Trouble;
-use answers::{page_of, row_of};
-use commands::Command;
-use events::{Acts, Event, Reply, counts, forget, late_after, shows, tell};
-use orders::{Cut, Part};
 use std::alloc::Global;
 use store::Told;
 
@@ -18,8 +16,24 @@ const TURNS: u64 = 1 << 40;
 // The longest row that the machine tells.
 const ROW: usize = 1280;
 
+// What came of an act.
 #[derive(Clone, Copy)]
-enum End {
+enum Reply {
+    Page,
+    // The page that was asked for is not there.
+    NoPage,
+    Next,
+}
+
+#[derive(Clone, Copy)]
+enum Event<'a> {
+    On(u64),
+    Say(Command<'a>),
+    Back(Reply),
+}
+
+#[derive(Clone, Copy)]
+pub enum End {
     Done,
     Refused(u64),
     // Power went first.
@@ -49,19 +63,104 @@ pub struct Session {
     device: Device,
     cut: Option<Cut>,
     // How many versions were written since all were last made safe.
-    pub late: u64,
+    late: u64,
     with_acts: bool,
+}
+
+// Says a command to the machine, by the number of its event.
+fn say(memory: &mut [u64], command: Command<'_>, out: &mut [u64]) -> Told
+    ensures { Says memory.old command.entry out.old result memory.new out.new }
+{
+    match command {
+        Command::Write(key, moment, value) => store::step(memory, 1, moment, key, value, out),
+        Command::Erase(key, moment) => store::step(memory, 2, moment, key, &[], out),
+        Command::Get(key, moment) => store::step(memory, 3, moment, key, &[], out),
+        Command::Range(from, None, moment) => store::step(memory, 4, moment, from, &[], out),
+        Command::Range(from, Some(to), moment) => store::step(memory, 5, moment, from, to, out),
+        Command::First(moment) => store::step(memory, 6, moment, &[], &[], out),
+        Command::Last(moment) => store::step(memory, 7, moment, &[], &[], out),
+        Command::Count(moment) => store::step(memory, 8, moment, &[], &[], out),
+        Command::Flush => store::step(memory, 9, 0, &[], &[], out),
+        Command::Compact(moment) => store::step(memory, 10, moment, &[], &[], out),
+    }
+}
+
+// Tells the machine an event; `page` is what was read last.
+fn tell(memory: &mut [u64], event: Event<'_>, page: &[u8], out: &mut [u64]) -> Told
+    ensures { Tells memory.old event.entry page.now out.old result memory.new out.new }
+{
+    match event {
+        Event::On(pages) => store::step(memory, 0, pages, &[], &[], out),
+        Event::Say(command) => say(memory, command, out),
+        Event::Back(Reply::Page) => store::step(memory, 11, 0, &[], page, out),
+        Event::Back(Reply::NoPage) => store::step(memory, 11, 0, &[], &[], out),
+        Event::Back(Reply::Next) => store::step(memory, 12, 0, &[], &[], out),
+    }
+}
+
+// The first numbers of `out` as the bytes of a page, if each is one.
+fn page_of(out: &[u64]) -> Option<[u8; PAGE]> {
+    let mut page = [0u8; PAGE];
+    for (b, n) in page.iter_mut().zip(out.iter()) {
+        *b = u8::try_from(*n).ok()?;
+    }
+    Some(page)
+}
+
+fn row_of(out: &[u64], len: u64) -> Option<&[u64]> {
+    let len = usize::try_from(len).ok()?;
+    out.get(0..len)
 }
 
 fn zeros(heap: Global, len: usize) -> Result<Vec<u64>, Trouble> {
     Ok(vec![in heap; 0u64; len]?)
 }
 
+fn clear(memory: &mut [u64]) {
+    for x in memory.iter_mut() {
+        *x = 0;
+    }
+}
+
+// Does a command show versions, so that it has to say when there is none?
+fn shows(command: Command<'_>) -> bool {
+    match command {
+        Command::Get(_, _) => true,
+        Command::Range(_, _, _) => true,
+        Command::First(_) => true,
+        Command::Last(_) => true,
+        _ => false,
+    }
+}
+
+fn counts(event: Event<'_>) -> bool {
+    match event {
+        Event::Say(Command::Count(_)) => true,
+        _ => false,
+    }
+}
+
 fn notes_for(event: Event<'_>) -> Notes {
+    let acts = Acts {
+        read: 0,
+        put: 0,
+        settle: 0,
+    };
     Notes {
         counts: counts(event),
         rows: 0,
-        acts: Acts::none(),
+        acts,
+    }
+}
+
+// How many versions are not safe after a command that is done, if it was `late` before.
+fn late_after(command: Command<'_>, late: u64) -> u64 {
+    match command {
+        Command::Write(_, _, _) => late.saturating_add(1),
+        Command::Erase(_, _) => late.saturating_add(1),
+        Command::Flush => 0,
+        Command::Compact(_) => 0,
+        _ => late,
     }
 }
 
@@ -84,10 +183,12 @@ impl Session {
         Ok(session)
     }
 
+    pub fn late(&self) -> u64 {
+        self.late
+    }
+
     // Power will go within the next command.
-    pub fn plan(&mut self, cut: Cut)
-        ensures { self.new ≡ planned self.old cut }
-    {
+    pub fn plan(&mut self, cut: Cut) {
         self.cut = Some(cut);
     }
 
@@ -124,11 +225,17 @@ impl Session {
 
     // Does what the machine asks for.
     fn obey(&mut self, rt: &HostRuntime, told: Told, notes: &mut Notes) -> Result<Turn, Trouble> {
-        notes.acts = notes.acts.with(told);
         match told {
-            Told::Read(at) => self.read(at),
-            Told::Put(at) => self.put(at),
+            Told::Read(at) => {
+                notes.acts.read = notes.acts.read.saturating_add(1);
+                self.read(at)
+            }
+            Told::Put(at) => {
+                notes.acts.put = notes.acts.put.saturating_add(1);
+                self.put(at)
+            }
             Told::Settle => {
+                notes.acts.settle = notes.acts.settle.saturating_add(1);
                 self.device.settle()?;
                 Ok(Turn::Goes(Reply::Next))
             }
@@ -167,9 +274,9 @@ impl Session {
 
     // Power comes: memory is as at the start.
     fn wake(&mut self, rt: &HostRuntime) -> Result<(), Trouble> {
-        forget(self.memory.as_mut_slice());
+        clear(self.memory.as_mut_slice());
         self.late = 0;
-        let event = Event::On(self.device.pages);
+        let event = Event::On(self.device.pages());
         let mut notes = notes_for(event);
         match self.run(rt, event, TURNS, &mut notes)? {
             End::Done => Ok(()),
@@ -212,7 +319,7 @@ impl Session {
             End::Cut => return Ok(()),
         }
         if self.with_acts {
-            answer::show_acts(rt, notes.acts)?;
+            answer::show_acts(rt, &notes.acts)?;
         }
         Ok(())
     }

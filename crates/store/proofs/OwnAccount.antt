@@ -1,90 +1,89 @@
--- An account of the machine: what holds at rest, at power-on, between commands and within one. Each command's within has a type of its own.
-use Rattle.std.proofs.Common.{◌≡◌, ℕ, suc, ◌+◌, ◌-◌, ◌*◌, ◌<◌, ◌≤◌, Bool, true, false, List, [], length}
-use Rattle.value.specs.Versions.{every, Version, version, latest}
-use Rattle.value.specs.Encoding.{fits}
+-- An account of the machine: what holds at rest, at power-on, between commands and within one. Nothing waits on the device, and memory holds the house.
+use Rattle.std.proofs.Common.{◌≡◌, ℕ, zero, suc, ◌<◌, ◌≤◌, Bool, true, false, ◌&&◌, eqb, ltb, leb, List, [], ◌∷◌, ◌++◌, length, sym, refl, ap, ◌∙◌, subst, arith, eq-eqb}
+use Rattle.value.specs.Versions.{pick, every, Version}
+use Rattle.value.specs.Rising.{last_moment}
+use Rattle.value.proofs.TestLaws.{and_left_of, and_right_of}
 use Rattle.memtable.specs.Words.{bytes}
-use Rattle.memtable.specs.Memtable.{none}
-use Rattle.memtable.specs.Arena.{key_at, moment_at}
-use Rattle.table.specs.Device.{Page, page_at}
-use Rattle.table.specs.Lookup.{Looking}
-use Rattle.table.specs.declared.lookup.Lookup.{Lookup}
-use Rattle.table.specs.declared.lookup.Stage.{Stage}
-use Rattle.table.specs.declared.lookup.Stage.TheVariants.{Entry, Head, Block}
-use Rattle.manifest.specs.Manifest.{manifest_in, is_whole}
-use Rattle.manifest.specs.declared.fields.Manifest.{Manifest}
-use Rattle.store.specs.House.{House, Command, write, erase, get, range, first_key, last_key, count, flush, compact, small_command, shows}
-use Rattle.store.specs.Promise.{Event, on, said, page, next, World}
-use Rattle.store.specs.Control.{memory_words, base, control_of, stage_region, ring_of}
-use Rattle.store.specs.Stage.{staged_version}
-use Rattle.store.specs.Look.{extent_of}
-use Rattle.store.specs.Power.{first_phase}
+use Rattle.table.specs.Device.{Page, left, blank}
+use Rattle.table.proofs.DeviceLaws.{length_blank}
+use Rattle.store.specs.House.{House, house, Command, get, small_command, shows}
+use Rattle.store.specs.Promise.{Event, on, said, next, Engine, World, world}
+use Rattle.store.specs.Account.{Account, leavings, Fresh, WakesUp, WakesOn, WakingStops, IdleStops}
+use Rattle.store.specs.Control.{memory_words, control_of}
+use Rattle.store.specs.Own.{powered, heard, turned, own}
 use Rattle.store.specs.declared.control.Phase.{Phase}
-use Rattle.store.specs.declared.control.Phase.TheVariants.{Idle, Shown, FirstList, Getting, Writing}
-use Rattle.store.proofs.RegionLaws.{SmallLookup}
-use Rattle.store.proofs.StoredLaws.{Stored}
-use Rattle.store.proofs.HeldLaws.{Held}
+use Rattle.store.specs.declared.control.Phase.TheVariants.{Idle, Shown}
+use Rattle.store.proofs.RunLaws.{wake_by}
+use Rattle.store.proofs.SteadyLaws.{start_long}
+use Rattle.store.proofs.HeldLaws.{Held, held_empty}
 
--- AT REST: some list of tables holds, and names these versions
-pub record Durable (n pages : ℕ) (vs : List Version) (t : ℕ) (ps : List Page) : Type 0 where
-  pub list : Manifest
-  pub commits : list.commit ≤ n
-  pub low : t ≡ 0
-  pub stored : Stored pages vs list ps
-
--- BETWEEN COMMANDS, and within one that puts no page: nothing waits, and memory holds the house
-pub record Rest (n pages : ℕ) (h : House) (p : Phase) (w : World) : Type 0 where
-  pub list : Manifest
-  pub commits : list.commit ≤ n
+pub record Rest (pages : ℕ) (h : House) (p : Phase) (w : World) : Type 0 where
   pub quiet : w.device.queue ≡ []
-  pub stored : Stored pages h.safe list w.device.pages
-  pub held : Held pages h list p w.memory
+  pub sized : length w.device.pages ≡ pages
+  pub held : Held pages h p w.memory
 
--- POWER COMES: page 0 is asked for, and then page 1
-pub data Comes (n pages : ℕ) (vs : List Version) (t : ℕ) (w : World) (ev : Event) (μ : ℕ) : Type 0 where
-  starts : Durable n pages vs t w.device.pages → w.device.queue ≡ [] → length w.memory ≡ memory_words → ev ≡ on pages → μ ≡ 2 → Comes n pages vs t w ev μ
-  first :
-      Durable n pages vs t w.device.pages → w.device.queue ≡ [] → length w.memory ≡ memory_words → (control_of w.memory).base ≡ base FirstList pages 0 none →
-      ev ≡ page (page_at w.device.pages 0) → μ ≡ 1 → Comes n pages vs t w ev μ
-  second :
-      Durable n pages vs t w.device.pages → w.device.queue ≡ [] → length w.memory ≡ memory_words →
-      (control_of w.memory).base ≡ base (first_phase (is_whole (page_at w.device.pages 0))) pages 0 none → (control_of w.memory).manifest ≡ manifest_in (page_at w.device.pages 0) →
-      ev ≡ page (page_at w.device.pages 1) → μ ≡ 0 → Comes n pages vs t w ev μ
+pub record Empty (pages : ℕ) (vs : List Version) (t : ℕ) (ps : List Page) : Type 0 where
+  pub none : vs ≡ []
+  pub low : t ≡ 0
+  pub sized : length ps ≡ pages
+  pub few : pages ≤ 1048576
 
--- A LOOKUP for a key at a moment: a page is wanted, and comes next
-abbrev pub stage_left : Stage → ℕ
-stage_left Entry = 8
-stage_left Head = 7
-stage_left Block = 4
+pub record Comes (pages : ℕ) (vs : List Version) (t : ℕ) (w : World) (ev : Event) : Type 0 where
+  pub empty : Empty pages vs t w.device.pages
+  pub quiet : w.device.queue ≡ []
+  pub long : length w.memory ≡ memory_words
+  pub event : ev ≡ on pages
 
-abbrev pub lookup_left : Lookup → ℕ
-lookup_left l = 8 * (l.search.high - l.search.low) + stage_left l.stage - l.load.got
+pub data Within (pages : ℕ) (h : House) (c : Command) (w : World) (ev : Event) (ts : List (List ℕ)) (μ : ℕ) : Type 0 where
+  begun : Rest pages h Idle w → small_command c ≡ true → ev ≡ said c → ts ≡ [] → μ ≡ 1 → Within pages h c w ev ts μ
+  shown : (key : List ℕ) (s : ℕ) → c ≡ get key s → Rest pages h Shown w → ev ≡ next → ts ≡ shows h (get key s) → μ ≡ 0 → Within pages h c w ev ts μ
 
-abbrev pub most_lookups : Manifest → ℕ
-most_lookups f = 8 * f.table.blocks + 9
+abbrev pub account : Account
+account = record {
+  Durable = λ n pages vs t ps. Empty pages vs t ps;
+  Waking = λ n pages vs t w ev μ. Comes pages vs t w ev;
+  Idle = λ n pages h w. Rest pages h Idle w;
+  Busy = λ n pages h c w ev ts μ. Within pages h c w ev ts μ;
+}
 
-pub record Looks (h : House) (f : Manifest) (w : World) (key : List ℕ) (s : ℕ) (ev : Event) (μ : ℕ) : Type 0 where
-  pub small : SmallLookup (control_of w.memory).lookup
-  pub staged_key : key_at (stage_region w.memory) 0 ≡ key
-  pub looking : Looking (extent_of f) w.device.pages h.safe key s (control_of w.memory).lookup (ring_of w.memory)
-  pub wants : (control_of w.memory).lookup.load.got < (control_of w.memory).lookup.load.span.pages
-  pub event : ev ≡ page (page_at w.device.pages ((control_of w.memory).lookup.load.span.page + (control_of w.memory).lookup.load.got))
-  pub left : μ ≡ lookup_left (control_of w.memory).lookup
+-- a stop of a device on which nothing waits leaves its pages
+left_quiet : (w : World) (cs : List ℕ) → w.device.queue ≡ [] → leavings w cs ≡ w.device.pages
+unfolding left
+left_quiet w cs e = rw e refl
 
--- WITHIN A GET
-pub data Gets (n pages : ℕ) (h : House) (key : List ℕ) (s : ℕ) (w : World) (ev : Event) (ts : List (List ℕ)) (μ : ℕ) : Type 0 where
-  begun : (r : Rest n pages h Idle w) → small_command (get key s) ≡ true → ev ≡ said (get key s) → ts ≡ [] → μ ≡ most_lookups r.list → Gets n pages h key s w ev ts μ
-  looking :
-      (r : Rest n pages h Getting w) → s < 18446744073709551616 → bytes key ≡ true → latest r.held.fresh key s ≡ [] → moment_at (stage_region w.memory) 0 ≡ s →
-      Looks h r.list w key s ev μ → ts ≡ [] → Gets n pages h key s w ev ts μ
-  shown : Rest n pages h Shown w → ev ≡ next → ts ≡ shows h (get key s) → μ ≡ 0 → Gets n pages h key s w ev ts μ
+pub rest_stops : (pages : ℕ) (h : House) (p : Phase) (w : World) → Rest pages h p w → (cs : List ℕ) → Empty pages h.safe h.low (leavings w cs)
+rest_stops pages h p w r cs = record {
+  none = r.held.none_safe;
+  low = r.held.none_low;
+  sized = ap length (left_quiet w cs r.quiet) ∙ r.sized;
+  few = r.held.few;
+}
 
--- WITHIN A WRITE OR AN ERASURE, which is to give this version: it passed all checks up to the table's
-pub data Writes (n pages : ℕ) (h : House) (c : Command) (v : Version) (w : World) (ev : Event) (ts : List (List ℕ)) (μ : ℕ) : Type 0 where
-  begun : (r : Rest n pages h Idle w) → small_command c ≡ true → ev ≡ said c → ts ≡ [] → μ ≡ most_lookups r.list → Writes n pages h c v w ev ts μ
-  looking :
-      (r : Rest n pages h Writing w) → fits v ≡ true → h.last ≤ v.moment → staged_version w.memory ≡ v → moment_at (stage_region w.memory) 0 ≡ v.moment →
-      Looks h r.list w v.key (suc v.moment) ev μ → ts ≡ [] → Writes n pages h c v w ev ts μ
+-- a step of a memory of the right length
+pub step_is : (m : List ℕ) (ev : Event) → length m ≡ memory_words → own.step m ev ≡ turned (control_of m) m ev
+unfolding own
+step_is m ev l = rw (eq-eqb (length m) memory_words l) refl
 
--- WITHIN A COMMAND THAT IS NOT KNOWN
-pub data Unheard (n pages : ℕ) (h : House) (c : Command) (w : World) (ev : Event) (ts : List (List ℕ)) (μ : ℕ) : Type 0 where
-  begun : Rest n pages h Idle w → ev ≡ said c → ts ≡ [] → Unheard n pages h c w ev ts μ
+pub fresh : Fresh account
+fresh pages lo hi = record { none = refl; low = refl; sized = length_blank pages; few = hi }
+
+pub wakes_up : WakesUp own account
+wakes_up n pages vs t ps b d = (0, record { empty = d; quiet = refl; long = start_long; event = ap on d.sized })
+
+pub wakes_on : WakesOn own account
+unfolding turned powered last_moment
+wakes_on n pages vs t w ev μ b i =
+    wake_by own account n pages vs t w ev μ (turned (control_of w.memory) w.memory (on pages)) (ap (own.step w.memory) i.event ∙ step_is w.memory (on pages) i.long)
+    (subst (λ x. Rest pages x Idle (world w.device (powered w.memory pages).memory)) (λ j. house (sym i.empty.none j) (sym i.empty.none j) (last_moment (sym i.empty.none j)) (sym i.empty.low j))
+    record { quiet = i.quiet; sized = i.empty.sized; held = held_empty pages w.memory i.long i.empty.few })
+
+pub waking_stops : WakingStops account
+waking_stops n pages vs t w ev μ b i cs = record {
+  none = i.empty.none;
+  low = i.empty.low;
+  sized = ap length (left_quiet w cs i.quiet) ∙ i.empty.sized;
+  few = i.empty.few;
+}
+
+pub idle_stops : IdleStops account
+idle_stops n pages h w b i cs = rest_stops pages h Idle w i cs

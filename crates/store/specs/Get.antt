@@ -1,60 +1,31 @@
--- Getting: what is seen of a key at a moment is looked up in memory, and where that does not decide in the table; it is told as one row.
---   got k m key s        a step that is told to get
---   got_below k m key s  memory does not decide
---   got_on k m p         a page came for a get
---   got_by k m l         all pages came that the lookup wanted
-use Rattle.std.specs.Prelude.{ℕ, false, List, [], Some, None, Option, nat_lt}
-use Rattle.value.specs.Versions.{pick, version}
-use Rattle.value.specs.Encoding.{key_at, value_at}
-use Rattle.value.specs.declared.version.Place.{Place}
-use Rattle.memtable.specs.Arena.{gone_at, moment_at, key_at as key_in}
+-- Getting: what is seen of a key at a moment is looked up in memory and told as one row.
+--   row_at a p      what is told of the version at a place of the arena: its key's length, the key, and the value
+--   got k m key s   a step that is told to get: what memory is then, and the act
+use Rattle.std.specs.Prelude.{◌≡◌, ℕ, List, ◌∷◌, ◌++◌, take, Some, None, Option}
+use Rattle.value.specs.Versions.{pick}
+use Rattle.memtable.specs.Arena.{key_length, key_at, value_at, gone_at}
 use Rattle.memtable.specs.Memtable.{found}
-use Rattle.table.specs.Row.{octets}
-use Rattle.table.specs.Lookup.{begun, with_page, loaded}
-use Rattle.table.specs.declared.lookup.Lookup.{Lookup}
-use Rattle.store.specs.House.{a_key}
 use Rattle.store.specs.Promise.{Step, tells, done}
-use Rattle.store.specs.Acts.{stepped}
-use Rattle.store.specs.Control.{put_control, to_phase, index_of, arena_of, stage_region, ring_of}
-use Rattle.store.specs.Stage.{staged}
-use Rattle.store.specs.Look.{extent_of, looked, page_in, asked}
-use Rattle.store.specs.Shown.{row_at, row_of}
-use Rattle.store.specs.declared.look.Looked.{Looked}
-use Rattle.store.specs.declared.look.Looked.TheVariants.{On, Found, Missing}
-use Rattle.store.specs.declared.control.Phase.TheVariants.{Idle, Shown, Getting}
+use Rattle.store.specs.Acts.{ActTold}
+use Rattle.store.specs.Control.{control, put_control, index_of, arena_of}
+use Rattle.store.specs.Write.{stepped}
+use Rattle.store.specs.declared.told.Told.{Told}
+use Rattle.store.specs.declared.control.Phase.TheVariants.{Shown}
 use Rattle.store.specs.declared.control.Control.{Control}
 
+-- a row has at most 1,280 numbers, whatever memory holds
+unfoldable pub row_at : List ℕ → ℕ → List ℕ
+row_at a p = take 1280 (key_length a p ∷ (key_at a p ++ value_at a p))
+
+unfoldable pub told_of : Control → List ℕ → Option ℕ → Step
+told_of k m None = stepped m done
+told_of k m (Some p) = pick (gone_at (arena_of m) p) (stepped m done) (stepped (put_control m (control Shown k.pages k.last k.table)) (tells (row_at (arena_of m) p)))
+
 unfoldable pub sought : Control → List ℕ → List ℕ → ℕ → Option ℕ
-sought k m key s = found k.base.table (index_of m) (arena_of m) key s
-
--- the table is looked through, unless no key there can be this one
-abbrev pub begun_get : Control → List ℕ → List ℕ → ℕ → Option Lookup → Step
-begun_get k m key s None = stepped m done
-begun_get k m key s (Some l) = asked (to_phase k Getting) (staged (version key s false []) m) l
-
-unfoldable pub got_below : Control → List ℕ → List ℕ → ℕ → Step
-got_below k m key s = pick (a_key key) (begun_get k m key s (begun (extent_of k.manifest))) (stepped m done)
-
-unfoldable pub told_of : Control → List ℕ → List ℕ → ℕ → Option ℕ → Step
-told_of k m key s None = got_below k m key s
-told_of k m key s (Some p) = pick (gone_at (arena_of m) p) (stepped m done) (stepped (put_control m (to_phase k Shown)) (tells (row_at (arena_of m) p)))
+sought k m key s = found k.table (index_of m) (arena_of m) key s
 
 unfoldable pub got : Control → List ℕ → List ℕ → ℕ → Step
-got k m key s = told_of k m key s (sought k m key s)
+got k m key s = told_of k m (sought k m key s)
 
--- what the table has
-unfoldable pub shown_by : Control → List ℕ → Lookup → List ℕ → Looked → Step
-shown_by k m l row (On next) = asked k m next
-shown_by k m l row Missing = stepped (put_control m (to_phase k Idle)) done
-shown_by k m l row (Found p) =
-    pick p.gone (stepped (put_control m (to_phase k Idle)) done)
-    (stepped (put_control m (to_phase k Shown)) (tells (row_of (key_at (loaded l row) p) (value_at (loaded l row) p))))
-
-unfoldable pub got_by : Control → List ℕ → Lookup → Step
-got_by k m l =
-    shown_by k m l (octets 2016 (ring_of m)) (looked l (extent_of k.manifest) (octets 2016 (ring_of m)) (key_in (stage_region m) 0) (moment_at (stage_region m) 0))
-
-unfoldable pub got_on : Control → List ℕ → List ℕ → Step
-got_on k m p =
-    pick (nat_lt (with_page k.lookup).load.got k.lookup.load.span.pages) (asked k (page_in k.lookup p m) (with_page k.lookup))
-    (got_by k (page_in k.lookup p m) (with_page k.lookup))
+abbrev pub Got : Step → Told → (out m₁ out₁ : List ℕ) → Type 0
+Got s r out m₁ out₁ = (m₁ ≡ s.memory) × ActTold s.act r out out₁

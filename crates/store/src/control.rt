@@ -1,7 +1,8 @@
-// What the machine knows between steps.
-use manifest::Manifest;
+// What the machine knows between steps, in the first words of its memory.
+ghost use Rattle.std.specs.Prelude.{◌≡◌, ◌≤◌, length};
+ghost use Rattle.store.specs.Control.{phase_of, phase_number, control_of, put_control};
+
 use memtable::Memtable;
-use table::{Cursor, Lookup, Writer};
 
 // What is under way between two events.
 #[derive(Clone, Copy)]
@@ -10,53 +11,59 @@ pub enum Phase {
     Idle,
     // The row that a get shows was told.
     Shown,
-    // Power is there, and page 0 was asked for.
-    FirstList,
-    // So was page 1; the list on page 0 is whole.
-    AfterWhole,
-    // The same, but the list on page 0 is torn.
-    AfterTorn,
-    // The table is looked through for a get.
-    Getting,
-    // The same for a write, whose key may have been written at its moment.
-    Writing,
-    // Table and memory are merged into the free half.
-    Merging,
-    // The last page of data was put.
-    Closed,
-    // The last page of positions was put.
-    Placed,
-    // The new table is settled.
-    Settled,
-    // The new list was put.
-    Listed,
-    // It is settled.
-    Committed,
-}
-
-// The number of pages, the moment of the last write, and what is in memory.
-#[derive(Clone, Copy)]
-pub struct Base {
-    pub phase: Phase,
-    pub pages: u64,
-    pub last: u64,
-    pub table: Memtable,
-}
-
-// A merge of the table with what is in memory: how many versions in memory were handed over, and how many pages wait.
-#[derive(Clone, Copy)]
-pub struct Merging {
-    pub cursor: Cursor,
-    pub writer: Writer,
-    pub walked: u64,
-    pub waiting: u64,
 }
 
 #[derive(Clone, Copy)]
 pub struct Control {
-    pub base: Base,
-    // The list of tables that holds.
-    pub manifest: Manifest,
-    pub lookup: Lookup,
-    pub merging: Merging,
+    pub phase: Phase,
+    pub pages: u64,
+    // The moment of the last write.
+    pub last: u64,
+    pub table: Memtable,
+}
+
+fn phase_from(n: u64) -> Phase
+    ensures { result ≡ phase_of n }
+{
+    match n {
+        1 => Phase::Shown,
+        _ => Phase::Idle,
+    }
+}
+
+fn phase_word(phase: Phase) -> u64
+    ensures { result ≡ phase_number phase }
+{
+    match phase {
+        Phase::Idle => 0,
+        Phase::Shown => 1,
+    }
+}
+
+pub fn load(memory: &[u64]) -> Control
+    requires { length memory.now ≡ 147520 }
+    ensures { result ≡ control_of memory.now }
+{
+    Control {
+        phase: phase_from(memory[0]),
+        pages: memory[1],
+        last: memory[2],
+        table: Memtable {
+            versions: memory[3],
+            used: memory[4],
+            weight: memory[5],
+        },
+    }
+}
+
+pub fn save(memory: &mut [u64], control: Control)
+    requires { length memory.old ≡ 147520 }
+    ensures { memory.new ≡ put_control memory.old control }
+{
+    memory[0] = phase_word(control.phase);
+    memory[1] = control.pages;
+    memory[2] = control.last;
+    memory[3] = control.table.versions;
+    memory[4] = control.table.used;
+    memory[5] = control.table.weight;
 }

@@ -1,97 +1,72 @@
-// Getting: what is seen of a key at a moment, looked up in memory, and where that does not decide in the table; told as one row.
-ghost use Rattle.std.specs.Prelude.{◌≡◌, ◌<◌, ◌≤◌, ◌++◌, length};
-ghost use Rattle.store.specs.Acts.{Does, Quiet};
-ghost use Rattle.store.specs.Get.{sought, got, got_below, got_by, got_on};
+// Getting: what is seen of a key at a moment, looked up in memory and told as one row.
+ghost use Rattle.std.specs.Prelude.{◌≡◌, ◌<◌, ◌≤◌, ◌++◌, length, drop, slice_index};
+ghost use Rattle.store.specs.Get.{row_at, sought, got, Got};
 
-use crate::control::{Base, Control, Phase};
-use crate::look::{Looked, ask, extent_of, look_staged, take_page};
-use crate::shown::{write_place, write_row};
-use crate::stage::stage;
+use crate::control::{Control, Phase, save};
 use crate::told::Told;
-use crate::words::turn_to;
-use memtable::{is_gone, moment_at};
-use table::{Lookup, begin, read_octets};
+use memtable::{is_gone, key_byte, key_len, value_byte, value_len};
 
 // The place in the arena of the version that a reading wants.
 fn find(memory: &[u64], control: Control, key: &[u8], moment: u64) -> Option<u64>
-    requires { length memory.now ≡ 152520 }
+    requires { length memory.now ≡ 147520 }
     ensures { result ≡ sought control memory.now key.now moment }
 {
     control
-        .base
         .table
         .find(&memory[64..16448], &memory[16448..147520], key, moment)
 }
 
-// Memory does not decide: the table is looked through, unless no key there can be this one.
-fn get_below(memory: &mut [u64], control: Control, key: &[u8], moment: u64) -> Told
-    requires { length memory.old ≡ 152520 }
-    ensures { Quiet (got_below control memory.old key.now moment) result memory.new }
+// How many numbers the row of a version has.
+fn row_len(arena: &[u64], place: u64) -> u64
+    ensures { result ≡ length (row_at arena.now place) }
 {
-    if key.len() < 1 || key.len() > 255 {
-        return Told::Done;
+    (1 + key_len(arena, place) + value_len(arena, place)).min(1280)
+}
+
+// One number of it.
+fn row_byte(arena: &[u64], place: u64, i: u64) -> u64
+    requires { i < length (row_at arena.now place) }
+    ensures { result ≡ slice_index (row_at arena.now place) i }
+{
+    let len = key_len(arena, place);
+    if i == 0 {
+        return len;
     }
-    let Some(lookup) = begin(extent_of(control.manifest)) else {
-        return Told::Done;
-    };
-    stage(memory, key, moment, false, &[]);
-    let base = Base {
-        phase: Phase::Getting,
-        ..control.base
-    };
-    ask(memory, Control { base, ..control }, lookup)
+    if i - 1 < len {
+        return u64::from(key_byte(arena, place, i - 1));
+    }
+    u64::from(value_byte(arena, place, i - 1 - len))
+}
+
+fn write_row(arena: &[u64], place: u64, out: &mut [u64]) -> u64
+    requires { 1280 ≤ length out.old }
+    ensures len { result ≡ length (row_at arena.now place) }
+    ensures row { out.new ≡ row_at arena.now place ++ drop (length (row_at arena.now place)) out.old }
+{
+    let len = row_len(arena, place);
+    for i in 0..len {
+        out[i as usize] = row_byte(arena, place, i);
+    }
+    len
 }
 
 pub fn get(memory: &mut [u64], control: Control, key: &[u8], moment: u64, out: &mut [u64]) -> Told
-    requires { (length memory.old ≡ 152520) × (1280 ≤ length out.old) }
-    ensures { Does (got control memory.old key.now moment) result out.old memory.new out.new }
+    requires { (length memory.old ≡ 147520) × (1280 ≤ length out.old) }
+    ensures { Got (got control memory.old key.now moment) result out.old memory.new out.new }
 {
     let Some(place) = find(memory, control, key, moment) else {
-        return get_below(memory, control, key, moment);
+        return Told::Done;
     };
     if is_gone(&memory[16448..147520], place) {
         return Told::Done;
     }
     let len = write_row(&memory[16448..147520], place, out);
-    turn_to(memory, control, Phase::Shown);
+    save(
+        memory,
+        Control {
+            phase: Phase::Shown,
+            ..control
+        },
+    );
     Told::Tells(len)
-}
-
-// All pages came that were wanted: the version is shown, or there is none, or more is wanted.
-fn end_get(memory: &mut [u64], control: Control, lookup: Lookup, out: &mut [u64]) -> Told
-    requires { (length memory.old ≡ 152520) × (1280 ≤ length out.old) }
-    ensures { Does (got_by control memory.old lookup) result out.old memory.new out.new }
-{
-    let mut row = [0u8; 2016];
-    read_octets(&memory[147682..149698], &mut row);
-    let moment = moment_at(&memory[147520..147682], 0);
-    let extent = extent_of(control.manifest);
-    match look_staged(memory, lookup, extent, &row, moment) {
-        Looked::On(next) => ask(memory, control, next),
-        Looked::Missing => {
-            turn_to(memory, control, Phase::Idle);
-            Told::Done
-        }
-        Looked::Found(place) => {
-            if place.gone {
-                turn_to(memory, control, Phase::Idle);
-                return Told::Done;
-            }
-            let len = write_place(lookup.loaded(&row), place, out);
-            turn_to(memory, control, Phase::Shown);
-            Told::Tells(len)
-        }
-    }
-}
-
-// A page came for a get.
-pub fn get_on(memory: &mut [u64], control: Control, page: &[u8], out: &mut [u64]) -> Told
-    requires { (length memory.old ≡ 152520) × (1280 ≤ length out.old) }
-    ensures { Does (got_on control memory.old page.now) result out.old memory.new out.new }
-{
-    let lookup = take_page(memory, control.lookup, page);
-    if lookup.load.got < lookup.load.span.pages {
-        return ask(memory, control, lookup);
-    }
-    end_get(memory, control, lookup, out)
 }

@@ -1,7 +1,12 @@
-use Rattle.std.proofs.Common.{rules}
-use Rattle.store.specs.Write.{put_in}
+use Rattle.std.proofs.Common.{ap, ◌∙◌}
+use Rattle.store.specs.Control.{control, put_control}
+use Rattle.store.specs.Write.{in_index, put_in}
+use Rattle.store.specs.declared.control.Phase.TheVariants.{Idle}
 use Rattle.store.proofs.write.put_version.Goals as goal
 
 pub returns : goal.returns
 unfolding put_in
-returns c = search rules
+returns c =
+    c.save.ensures
+    ∙ ap (λ x. put_control x (control Idle c.args.control.pages c.args.moment c.args.table))
+    (c.put-in-index.ensures ∙ ap (in_index c.args.control.table c.args.place) c.put-in-arena.ensures)

@@ -1,0 +1,4 @@
+pub mod CommandLaws
+pub mod NumberLaws
+pub mod OrderLaws
+pub mod WordsLaws
