@@ -1,11 +1,11 @@
 -- Forgetting is a walk over the table.
-use Rattle.std.proofs.Common.{◌≡◌, ℕ, zero, suc, ◌+◌, ◌<◌, ◌≤◌, Bool, true, false, not, ◌&&◌, eqb, ltb, leb, List, [], ◌∷◌, ◌++◌, sym, refl, ap, ◌∙◌}
+use Rattle.std.proofs.Common.{◌≡◌, ℕ, Bool, true, false, ◌&&◌, ltb, List, [], ◌∷◌, sym, refl, ap, ◌∙◌}
 use Rattle.value.specs.Versions.{pick, or, every, any, same, before, Version, later_below, kept}
 use Rattle.value.specs.Sorted.{insert_old, sort, not_under, by_key, passed, kept_from, kept_sorted, slim, slim_sorted, ForgetRight}
-use Rattle.value.proofs.TestLaws.{clash, and_left_of, and_right_of, and_false_right, or_true_right, every_mono, every_not_any}
-use Rattle.value.proofs.KeyLaws.{same_refl, same_sym, same_eq, before_irrefl, before_not, before_apart, before_apart', le_lt, le_le, Order, before_it, same_as, behind_it, order}
+use Rattle.value.proofs.TestLaws.{clash, and_left_of, and_right_of, and_false_right, every_not_any}
+use Rattle.value.proofs.KeyLaws.{before_apart, before_apart', le_lt, Order, before_it, same_as, behind_it, order}
 use Rattle.value.proofs.KeptLaws.{below}
-use Rattle.value.proofs.SeenLaws.{keyed, behind}
+use Rattle.value.proofs.SeenLaws.{behind}
 use Rattle.value.proofs.SortLaws.{sort_any, sort_by_key, all_behind}
 use borrow.Author.Tests.{not-true}
 

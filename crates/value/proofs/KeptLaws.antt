@@ -1,12 +1,11 @@
 -- What's forgotten isn't missed.
-use Rattle.std.proofs.Common.{◌≡◌, ℕ, zero, suc, ◌+◌, ◌<◌, ◌≤◌, Bool, true, false, not, ◌&&◌, eqb, ltb, leb, ◌⊎◌, List, [], ◌∷◌, ◌++◌, sym, refl, ap, ◌∙◌, inl, inr, arith, ltb-false, ltb-true, le-ltb, lt-ltb, eq-eqb, ne_eqb, eqb-true, leb-true}
-use Rattle.value.specs.Versions.{pick, or, every, any, those, none_of, same, before, Version, latest, living, seen, later_below, kept}
+use Rattle.std.proofs.Common.{◌≡◌, ℕ, ◌≤◌, Bool, true, false, not, ◌&&◌, eqb, ltb, leb, ◌⊎◌, List, [], ◌∷◌, sym, refl, ap, ◌∙◌, inl, inr, arith, ltb-false, ltb-true, le-ltb, lt-ltb, leb-true}
+use Rattle.value.specs.Versions.{pick, or, any, those, none_of, same, Version, latest, living, seen, later_below, kept}
 use Rattle.value.specs.Rising.{rising}
 use Rattle.value.specs.Answers.{NotMissed, TwiceOnce}
-use borrow.Author.Tests.{both_ways, eqb-false}
-use Rattle.value.proofs.TestLaws.{clash, and_false_right, and_left_of, and_right_of, or_true_right, or_left_no, or_right_no, or_cases, any_mono, every_not_any}
+use Rattle.value.proofs.TestLaws.{clash, and_false_right, and_left_of, and_right_of, or_true_right, or_right_no, or_cases, any_mono, every_not_any}
 use Rattle.value.proofs.LatestLaws.{pick_none}
-use Rattle.value.proofs.KeyLaws.{same_refl, same_sym, same_eq}
+use Rattle.value.proofs.KeyLaws.{same_eq}
 
 -- the tests that later_below and rising make, by name: a `rw` under a λ wants them written
 abbrev pub below : List ℕ → ℕ → Version → Bool

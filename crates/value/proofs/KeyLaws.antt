@@ -1,8 +1,7 @@
 -- The order of keys: same decides equality, before is a strict total order.
-use Rattle.std.proofs.Common.{◌≡◌, ℕ, zero, suc, ◌+◌, ◌<◌, ◌≤◌, Bool, true, false, not, ◌&&◌, eqb, ltb, leb, ◌⊎◌, List, [], ◌∷◌, ◌++◌, sym, refl, ap, ◌∙◌, ap₂, inl, inr, arith, ltb-false, ltb-true, le-ltb, lt-ltb, eq-eqb, ne_eqb, eqb-true}
-use Rattle.value.specs.Versions.{pick, or, same, before}
-use borrow.Author.Tests.{both_ways, eqb-false}
-use Rattle.value.proofs.TestLaws.{split, clash, and_left_of, and_right_of}
+use Rattle.std.proofs.Common.{◌≡◌, ℕ, ◌<◌, Bool, true, false, ◌&&◌, eqb, ltb, ◌⊎◌, List, [], ◌∷◌, sym, refl, ◌∙◌, ap₂, inl, inr, arith, ltb-true, le-ltb, lt-ltb, eq-eqb, ne_eqb, eqb-true}
+use Rattle.value.specs.Versions.{or, same, before}
+use Rattle.value.proofs.TestLaws.{clash, and_left_of, and_right_of}
 use Rattle.std.proofs.lemmas.Bool.{cases_order}
 
 pub same_refl : (xs : List ℕ) → same xs xs ≡ true

@@ -1,9 +1,8 @@
 -- What's seen: the latest of two runs, and a write.
-use Rattle.std.proofs.Common.{◌≡◌, ℕ, zero, suc, ◌+◌, ◌<◌, ◌≤◌, Bool, true, false, not, ◌&&◌, eqb, ltb, leb, List, [], ◌∷◌, ◌++◌, sym, refl, ap, ◌∙◌, ltb-false, ltb-true, le-ltb, lt-ltb, eq-eqb, ne_eqb, eqb-true}
-use Rattle.value.specs.Versions.{pick, or, every, any, those, none_of, same, before, Version, latest, seen}
+use Rattle.std.proofs.Common.{◌≡◌, ℕ, Bool, true, false, ◌&&◌, eqb, ltb, List, [], ◌∷◌, ◌++◌, refl, ap, ◌∙◌, le-ltb, lt-ltb, eq-eqb}
+use Rattle.value.specs.Versions.{pick, or, any, those, none_of, same, Version, latest}
 use Rattle.value.specs.Answers.{LaterFirst, WriteSeen}
-use borrow.Author.Tests.{both_ways, eqb-false}
-use Rattle.value.proofs.TestLaws.{clash, and_false_right, any_append, and_left_of, or_true_right}
+use Rattle.value.proofs.TestLaws.{and_false_right, or_true_right}
 use Rattle.value.proofs.KeyLaws.{same_refl, same_sym}
 
 pub pick_none : {A : Type 0} (l : List A) → l ≡ pick (none_of l) [] l

@@ -1,7 +1,7 @@
 -- Two tables merged are the table of both.
-use Rattle.std.proofs.Common.{◌≡◌, ℕ, zero, suc, ◌+◌, ◌<◌, ◌≤◌, Bool, true, false, not, ◌&&◌, List, [], ◌∷◌, ◌++◌, sym, refl, ap, ◌∙◌}
-use Rattle.value.specs.Versions.{pick, or, each, none_of, same, before, Version, latest}
-use Rattle.value.specs.Sorted.{insert_old, insert_new, sort, weave, merge, lookup, all_of, lookup_runs, merge_runs, MergeRight, PushRight, RunsRight}
+use Rattle.std.proofs.Common.{◌≡◌, ℕ, Bool, true, false, List, [], ◌∷◌, sym, refl, ap, ◌∙◌}
+use Rattle.value.specs.Versions.{pick, each, before, Version, latest}
+use Rattle.value.specs.Sorted.{insert_old, insert_new, sort, weave, merge, all_of, lookup_runs, merge_runs, MergeRight, PushRight, RunsRight}
 use Rattle.value.proofs.TestLaws.{clash}
 use Rattle.value.proofs.KeyLaws.{before_trans, le_le}
 use Rattle.value.proofs.LatestLaws.{later_first}

@@ -2,17 +2,16 @@
 use Rattle.std.proofs.Common.{◌≡◌, ℕ, ◌<◌, Bool, true, false, List, Ordering, Less, Equal, Greater, sym, refl, ◌∙◌, arith}
 use Rattle.std.proofs.lemmas.Bool.Decides.{nat_tests}
 use Rattle.std.proofs.lemmas.Cmp.{same_from_slice_cmp}
-use Rattle.std.specs.Ordering.{MatchOrdering, is_lt, is_eq, nat_cmp}
-use Rattle.std.specs.Cmp.Lexicographic.{Lex}
+use Rattle.std.specs.Ordering.{is_lt, is_eq, nat_cmp}
+use Rattle.std.specs.Cmp.Lexicographic.{slice_cmp}
 use Rattle.std.proofs.lemmas.Bool.{lt-ltb, le-ltb}
 use Rattle.value.specs.Versions.{pick, same, before, Version}
 use Rattle.value.specs.Order.{OrderSays, version_order}
-use Rattle.value.specs.declared.key.Reply.{Reply}
 use Rattle.value.specs.declared.key.Reply.TheVariants.{Before, Same, Behind}
 use Rattle.value.proofs.KeyLaws.{same_eq, same_from, before_irrefl, before_not, before_apart', Order, before_it, same_as, behind_it, order}
 
 abbrev pub ByBytes : List ℕ → List ℕ → Ordering → Type 0
-ByBytes = Lex (λ a b k. MatchOrdering k (a < b) (a ≡ b) (b < a))
+ByBytes xs ys o = o ≡ slice_cmp nat_cmp xs ys
 
 lex_before : (xs ys : List ℕ) (o : Ordering) → ByBytes xs ys o → is_lt o ≡ before xs ys
 unfolding before

@@ -1,9 +1,9 @@
 -- All that's seen: by keys in order, each once, and of each what's seen of it.
-use Rattle.std.proofs.Common.{◌≡◌, ℕ, zero, suc, ◌+◌, ◌<◌, ◌≤◌, Bool, true, false, not, ◌&&◌, eqb, ltb, leb, ◌⊎◌, List, [], ◌∷◌, ◌++◌, sym, refl, ap, ◌∙◌, inl, inr, append-nil}
-use Rattle.value.specs.Versions.{pick, or, every, any, those, none_of, same, before, Version, latest, living, seen, insert_key, all_keys, seen_of, all_seen}
+use Rattle.std.proofs.Common.{◌≡◌, ℕ, Bool, true, false, not, ◌&&◌, ltb, List, [], ◌∷◌, ◌++◌, sym, refl, ◌∙◌, append-nil}
+use Rattle.value.specs.Versions.{pick, or, every, any, those, none_of, same, before, Version, latest, living, seen, insert_key, all_keys, seen_of}
 use Rattle.value.specs.Answers.{ordered, RangeRight}
-use Rattle.value.proofs.TestLaws.{clash, split, and_left_of, and_right_of, or_left_no, or_right_no, every_mono, every_append, every_those, those_none, those_all, those_append}
-use Rattle.value.proofs.KeyLaws.{same_refl, same_sym, same_eq, same_from, before_trans, before_apart, before_apart', Order, before_it, same_as, behind_it, order}
+use Rattle.value.proofs.TestLaws.{and_left_of, and_right_of, or_left_no, or_right_no, every_mono, every_append, those_none, those_all, those_append}
+use Rattle.value.proofs.KeyLaws.{same_sym, same_eq, before_trans, before_apart', Order, before_it, same_as, behind_it, order}
 use Rattle.value.proofs.KeptLaws.{latest_skip}
 
 -- the tests by name

@@ -1,14 +1,14 @@
 -- The sorted view: its order, its weight, and what's looked up in it.
-use Rattle.std.proofs.Common.{◌≡◌, ℕ, zero, suc, ◌+◌, ◌<◌, ◌≤◌, Bool, true, false, not, ◌&&◌, eqb, ltb, leb, ◌⊎◌, List, [], ◌∷◌, ◌++◌, length, sym, refl, ap, ◌∙◌, inl, inr, arith, ltb-false, ltb-true, le-ltb, lt-ltb, eq-eqb, ne_eqb, eqb-true, leb-false, leb-true}
-use Rattle.value.specs.Versions.{pick, or, every, any, those, none_of, same, before, Version, latest, living, seen, added_up, weight}
+use Rattle.std.proofs.Common.{◌≡◌, ℕ, suc, ◌+◌, ◌≤◌, Bool, true, false, not, ◌&&◌, eqb, ltb, leb, ◌⊎◌, List, [], ◌∷◌, length, sym, refl, ap, ◌∙◌, inl, inr, arith, lt-ltb, leb-true}
+use Rattle.value.specs.Versions.{pick, or, every, any, none_of, same, before, Version, latest, added_up}
 use Rattle.value.specs.Rising.{rising}
 use Rattle.value.specs.Sorted.{insert_old, sort, comes_first, in_order, not_under, by_key, lookup, lookup_stop, SortOrders, SortWeighs, LookupRight}
-use borrow.Author.Tests.{eqb-false, not-true, eqb_apart}
-use Rattle.value.proofs.TestLaws.{clash, and_left_of, and_right_of, or_true_right, or_cases, every_mono}
-use Rattle.value.proofs.KeyLaws.{same_refl, same_sym, same_eq, same_from, before_irrefl, before_trans, before_not, before_apart, before_apart', lt_le, le_lt, le_le, Order, before_it, same_as, behind_it, order}
+use borrow.Author.Tests.{not-true, eqb_apart}
+use Rattle.value.proofs.TestLaws.{clash, and_left_of, and_right_of, or_cases, every_mono}
+use Rattle.value.proofs.KeyLaws.{same_sym, same_eq, before_trans, before_not, before_apart', lt_le, le_le, Order, before_it, same_as, behind_it, order}
 use Rattle.value.proofs.LatestLaws.{pick_none}
 use Rattle.value.proofs.KeptLaws.{not_later}
-use Rattle.value.proofs.SeenLaws.{keyed, behind}
+use Rattle.value.proofs.SeenLaws.{behind}
 
 pub insert_every : (f : Version → Bool) (v : Version) (us : List Version) → every f (insert_old v us) ≡ (f v && every f us)
 unfolding every insert_old

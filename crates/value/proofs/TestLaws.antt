@@ -1,6 +1,6 @@
 -- Tests: a Bool that's true or false, pick, or, and any and every over lists.
-use Rattle.std.proofs.Common.{◌≡◌, Bool, true, false, not, ◌&&◌, ◌⊎◌, List, [], ◌∷◌, ◌++◌, sym, refl, ap, ◌∙◌, inl, inr}
-use Rattle.value.specs.Versions.{pick, or, every, any, those, none_of}
+use Rattle.std.proofs.Common.{◌≡◌, Bool, true, false, ◌&&◌, ◌⊎◌, List, [], ◌∷◌, ◌++◌, sym, refl, ap, inl, inr}
+use Rattle.value.specs.Versions.{pick, or, every, any, those}
 use borrow.Author.Tests.{both_ways}
 
 pub split : (b : Bool) → (b ≡ true) ⊎ (b ≡ false)

@@ -1,11 +1,11 @@
 -- All that's seen is a walk over the table.
-use Rattle.std.proofs.Common.{◌≡◌, ℕ, zero, suc, ◌+◌, ◌<◌, ◌≤◌, Bool, true, false, not, ◌&&◌, eqb, ltb, leb, List, [], ◌∷◌, ◌++◌, sym, refl, ap, ◌∙◌, ap₂, arith}
-use Rattle.value.specs.Versions.{pick, or, every, any, those, none_of, same, before, Version, latest, living, seen, all_seen, in_range, from_key, up_to_key}
+use Rattle.std.proofs.Common.{◌≡◌, ℕ, Bool, true, false, not, ◌&&◌, ltb, List, [], ◌∷◌, sym, refl, ap, ◌∙◌, ap₂}
+use Rattle.value.specs.Versions.{pick, or, every, those, same, before, Version, living, all_seen, in_range, from_key, up_to_key}
 use Rattle.value.specs.Answers.{ordered}
 use Rattle.value.specs.Sorted.{sort, not_under, by_key, lookup, passed, visible_from, visible, seek, until, VisibleRight}
 use borrow.Author.Tests.{not-true}
 use Rattle.value.proofs.TestLaws.{clash, and_left_of, and_right_of, and_false_right, or_true_right, every_mono, every_those, those_none, those_all, pick_same}
-use Rattle.value.proofs.KeyLaws.{same_refl, same_sym, same_eq, before_irrefl, before_trans, before_not, le_le, before_apart, before_apart', Order, before_it, same_as, behind_it, order}
+use Rattle.value.proofs.KeyLaws.{same_refl, same_sym, same_eq, before_trans, le_le, before_apart', Order, before_it, same_as, behind_it, order}
 use Rattle.value.proofs.SeenLaws.{keyed, behind, range_right}
 use Rattle.value.proofs.SortLaws.{sort_by_key, all_behind, lookup_absent, lookup_sort}
 use Rattle.value.proofs.ForgettingLaws.{from_nil}

@@ -1,5 +1,5 @@
 -- What is promised of answers over one list of versions, whoever stores it and however. Each is a statement, a type whose proof is owed.
-use Rattle.std.specs.Prelude.{◌≡◌, ℕ, zero, suc, ◌+◌, ◌<◌, ◌≤◌, Bool, true, false, not, ◌&&◌, eqb, ltb, leb, List, [], ◌∷◌, ◌++◌, length}
+use Rattle.std.specs.Prelude.{◌≡◌, ℕ, ◌<◌, ◌≤◌, Bool, true, false, ◌&&◌, List, [], ◌∷◌, ◌++◌}
 use Rattle.value.specs.Versions.{pick, every, those, none_of, same, before, Version, latest, seen, all_seen, kept}
 use Rattle.value.specs.Rising.{rising}
 

@@ -1,6 +1,6 @@
 -- The sorted view: a table on disk has its versions by key, and in one key the newest first. Assumes nothing: these are definitions, and statements whose proofs are owed.
-use Rattle.std.specs.Prelude.{◌≡◌, ℕ, zero, suc, ◌+◌, ◌<◌, ◌≤◌, Bool, true, false, not, ◌&&◌, List, [], ◌∷◌, ◌++◌, length, nat_lt}
-use Rattle.value.specs.Versions.{pick, or, every, any, those, each, none_of, same, before, Version, latest, all_seen, in_range, from_key, up_to_key, later_below, kept, weight}
+use Rattle.std.specs.Prelude.{◌≡◌, ℕ, Bool, true, false, not, ◌&&◌, List, [], ◌∷◌, ◌++◌, length, nat_lt}
+use Rattle.value.specs.Versions.{pick, or, every, each, none_of, same, before, Version, latest, all_seen, in_range, up_to_key, later_below, kept, weight}
 use Rattle.value.specs.Rising.{rising}
 
 -- one that's older than all that are there stands behind those of its key

@@ -5,7 +5,7 @@
 --   newest          of each key the latest version below a moment, erasures among them
 --   StreamsAgree   the rows on which the definitions answer as upstream does
 --   StreamsDiffer  the rows on which they differ on purpose, with their own answer
-use Rattle.std.specs.Prelude.{◌≡◌, ℕ, true, false, ◌&&◌, List, [], ◌∷◌, ◌++◌, codes, nat_le}
+use Rattle.std.specs.Prelude.{◌≡◌, ℕ, true, false, List, [], ◌∷◌, codes, nat_le}
 use Prim.Native.String.{String}
 use Rattle.value.specs.Versions.{pick, every, each, Version, version, all_keys, kept}
 use Rattle.value.specs.Rising.{rising}

@@ -1,4 +1,6 @@
 // Versions of keys: their order, their bytes and words, and the laws of one list of versions, in the order in which they came and in the order of a table.
+#![tactic(auto)]
+
 mod count;
 mod key;
 mod laws;

@@ -4,4 +4,4 @@ use Rattle.manifest.proofs.page.word.Goals as goal
 
 pub returns : goal.returns
 unfolding word_at
-returns c = omega (arith, c.read-u64.ensures)
+returns c = omega (arith, c.read_u64.ensures)

@@ -6,6 +6,6 @@ use Rattle.shell.proofs.command.one.Goals.{in-default-via-then-rest-lt1, in-defa
 pub returns-in-len1 : goal.returns-in-len1
 returns-in-len1 c = sym (one_is c.args.called c.args.rest.now c.a-item.result (omega (arith, ltb-true, ltb-false)) c.a-item.is)
 
-pub returns-in-default : goal.returns-in-default
-returns-in-default c =
-    sym (one_not c.args.called c.args.rest.now (elim c.in-default.branch [ in-default-via-then-rest-lt1 w ↦ inl (omega (arith, ltb-true, ltb-false)) | in-default-via-else-rest-lt1+else-rest-lt2 w ↦ inr (omega (arith, ltb-true, ltb-false)) ]))
+pub returns-in_default : goal.returns-in_default
+returns-in_default c =
+    sym (one_not c.args.called c.args.rest.now (elim c.in_default.branch [ in-default-via-then-rest-lt1 w ↦ inl (omega (arith, ltb-true, ltb-false)) | in-default-via-else-rest-lt1+else-rest-lt2 w ↦ inr (omega (arith, ltb-true, ltb-false)) ]))

@@ -6,6 +6,6 @@ use Rattle.shell.proofs.command.two.Goals.{in-default-via-then-rest-lt2, in-defa
 pub returns-in-len2 : goal.returns-in-len2
 returns-in-len2 c = sym (two_is c.args.called c.args.rest.now c.a-item.result c.b-item.result (omega (arith, ltb-true, ltb-false)) c.a-item.is c.b-item.is)
 
-pub returns-in-default : goal.returns-in-default
-returns-in-default c =
-    sym (two_not c.args.called c.args.rest.now (elim c.in-default.branch [ in-default-via-then-rest-lt2 w ↦ inl (omega (arith, ltb-true, ltb-false)) | in-default-via-else-rest-lt2+else-rest-lt3 w ↦ inr (omega (arith, ltb-true, ltb-false)) ]))
+pub returns-in_default : goal.returns-in_default
+returns-in_default c =
+    sym (two_not c.args.called c.args.rest.now (elim c.in_default.branch [ in-default-via-then-rest-lt2 w ↦ inl (omega (arith, ltb-true, ltb-false)) | in-default-via-else-rest-lt2+else-rest-lt3 w ↦ inr (omega (arith, ltb-true, ltb-false)) ]))

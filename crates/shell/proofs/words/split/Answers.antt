@@ -3,34 +3,34 @@ use Rattle.std.proofs.lemmas.Result.{err_from_is_err_and}
 use Rattle.shell.proofs.WordsLaws.{byte_flaw, byte_goes, end_flaw, end_goes}
 use Rattle.shell.proofs.words.split.Goals as goal
 
-pub returns-in-err-next : goal.returns-in-err-next
-returns-in-err-next c =
+pub returns-in_err-next : goal.returns-in_err-next
+returns-in_err-next c =
     let p = err_from_is_err_and c.from-residual.result c.from-residual.ensures.1 in
-    rw (p.1, p.2) (inr (sym c.loop-b.invariant ∙ byte_flaw _ _ _ _ _ _ c.loop-b-test.true (sym c.turn.ensures ∙ c.in-err-next.was)))
+    rw (p.1, p.2) (inr (sym c.loop-b.invariant ∙ byte_flaw _ _ _ _ _ _ c.loop-b-test.true (sym c.turn.ensures ∙ c.in_err-next.was)))
 
-pub returns-in-err-perform : goal.returns-in-err-perform
-returns-in-err-perform c =
-    let p = err_from_is_err_and c.from-residual-in-err-perform.result c.from-residual-in-err-perform.ensures.1 in
+pub returns-in_err-perform : goal.returns-in_err-perform
+returns-in_err-perform c =
+    let p = err_from_is_err_and c.from-residual-in_err-perform.result c.from-residual-in_err-perform.ensures.1 in
     rw p.1 (inl p.2)
 
 pub loop-b-preserved : goal.loop-b-preserved
 loop-b-preserved c =
-    let goes = byte_goes _ _ _ _ _ _ _ c.loop-b-test.true (sym c.turn.ensures ∙ c.in-ok-next.was) in
-    let hand = c.in-ok-perform.ensures.hand in
-    let words = c.in-ok-perform.ensures.words in
+    let goes = byte_goes _ _ _ _ _ _ _ c.loop-b-test.true (sym c.turn.ensures ∙ c.in_ok-next.was) in
+    let hand = c.in_ok-perform.ensures.hand in
+    let words = c.in_ok-perform.ensures.words in
     rw (hand, words) (sym goes ∙ c.loop-b.invariant)
 
-pub returns-in-err-at-end : goal.returns-in-err-at-end
-returns-in-err-at-end c =
-    let p = err_from_is_err_and c.from-residual-in-err-at-end.result c.from-residual-in-err-at-end.ensures.1 in
-    rw (p.1, p.2) (inr (sym c.loop-b.invariant ∙ end_flaw _ _ _ _ _ _ c.loop-b-test.false (sym c.at-end.ensures ∙ c.in-err-at-end.was)))
+pub returns-in_err-at_end : goal.returns-in_err-at_end
+returns-in_err-at_end c =
+    let p = err_from_is_err_and c.from-residual-in_err-at_end.result c.from-residual-in_err-at_end.ensures.1 in
+    rw (p.1, p.2) (inr (sym c.loop-b.invariant ∙ end_flaw _ _ _ _ _ _ c.loop-b-test.false (sym c.at_end.ensures ∙ c.in_err-at_end.was)))
 
-pub returns-in-err-perform-2 : goal.returns-in-err-perform-2
-returns-in-err-perform-2 c =
-    let p = err_from_is_err_and c.from-residual-in-err-perform-2.result c.from-residual-in-err-perform-2.ensures.1 in
+pub returns-in_err-perform-2 : goal.returns-in_err-perform-2
+returns-in_err-perform-2 c =
+    let p = err_from_is_err_and c.from-residual-in_err-perform-2.result c.from-residual-in_err-perform-2.ensures.1 in
     rw p.1 (inl p.2)
 
 pub returns : goal.returns
 returns c =
-    let goes = end_goes _ _ _ _ _ _ c.loop-b-test.false (sym c.at-end.ensures ∙ c.in-ok-at-end.was) in
-    rw c.in-ok-perform-2.ensures.words (sym c.loop-b.invariant ∙ goes)
+    let goes = end_goes _ _ _ _ _ _ c.loop-b-test.false (sym c.at_end.ensures ∙ c.in_ok-at_end.was) in
+    rw c.in_ok-perform-2.ensures.words (sym c.loop-b.invariant ∙ goes)

@@ -11,4 +11,4 @@ returns c =
     let e₃ : wrap k.table.versions ≡ k.table.versions = omega arith in
     let e₄ : wrap k.table.used ≡ k.table.used = omega arith in
     let e₅ : wrap k.table.weight ≡ k.table.weight = omega arith in
-    simp (e₁, e₂, e₃, e₄, e₅, c.phase-word.ensures)
+    simp (e₁, e₂, e₃, e₄, e₅, c.phase_word.ensures)

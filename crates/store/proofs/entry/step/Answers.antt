@@ -8,8 +8,8 @@ returns-then-not-fits c = search (rules, misfit_says)
 pub load-control-requires : goal.load-control-requires
 load-control-requires c = (fits_all _ _ _ _ _ c.if-not-fits.ensures).memory
 
-pub take-turn-requires : goal.take-turn-requires
-take-turn-requires c = let f = fits_all _ _ _ _ _ c.if-not-fits.ensures in (f.memory, (f.room, f.kinds))
+pub take_turn-requires : goal.take_turn-requires
+take_turn-requires c = let f = fits_all _ _ _ _ _ c.if-not-fits.ensures in (f.memory, (f.room, f.kinds))
 
 pub returns : goal.returns
-returns c = turn_says _ _ _ _ _ _ _ _ _ c.load-control.result c.if-not-fits.ensures c.load-control.ensures c.take-turn.ensures
+returns c = turn_says _ _ _ _ _ _ _ _ _ c.load-control.result c.if-not-fits.ensures c.load-control.ensures c.take_turn.ensures

@@ -12,10 +12,10 @@ pub returns-in-2 : goal.returns-in-2
 returns-in-2 c = erase_turn c.args.control c.args.memory.now c.args.kind c.args.n c.args.one.now c.args.two.now c.args.out.now _ _ c.in-2.is c.write-in-2.ensures
 
 pub returns-in-12 : goal.returns-in-12
-returns-in-12 c = next_turn c.args.control c.args.memory.now c.args.kind c.args.n c.args.one.now c.args.two.now c.args.out.now _ _ c.in-12.is (c.go-on.ensures c.args.out.now)
+returns-in-12 c = next_turn c.args.control c.args.memory.now c.args.kind c.args.n c.args.one.now c.args.two.now c.args.out.now _ _ c.in-12.is (c.go_on.ensures c.args.out.now)
 
 pub returns-in-3 : goal.returns-in-3
 returns-in-3 c = get_turn c.args.control c.args.memory.now c.args.kind c.args.n c.args.one.now c.args.two.now c.args.out.now _ _ _ c.in-3.is c.get.ensures
 
-pub returns-in-default : goal.returns-in-default
-returns-in-default c = other_turn c.args.control c.args.memory.now c.args.kind c.args.n c.args.one.now c.args.two.now c.args.out.now c.requires.1.1 (λ e. omega arith) (λ e. omega arith) (λ e. omega arith) (λ e. omega arith) (λ e. omega arith)
+pub returns-in_default : goal.returns-in_default
+returns-in_default c = other_turn c.args.control c.args.memory.now c.args.kind c.args.n c.args.one.now c.args.two.now c.args.out.now c.requires.1.1 (λ e. omega arith) (λ e. omega arith) (λ e. omega arith) (λ e. omega arith) (λ e. omega arith)

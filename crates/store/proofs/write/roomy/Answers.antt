@@ -7,4 +7,4 @@ returns-then-not-accepts c = simp (sym c.if-not-accepts.ensures)
 
 pub returns : goal.returns
 unfolding after_one
-returns c = simp (sym c.if-not-accepts.ensures) (ap Some (c.with-one.ensures ∙ simp (sym c.if-not-accepts.ensures)))
+returns c = simp (sym c.if-not-accepts.ensures) (ap Some (c.with_one.ensures ∙ simp (sym c.if-not-accepts.ensures)))

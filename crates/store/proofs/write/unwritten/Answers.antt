@@ -3,10 +3,10 @@ use Rattle.store.specs.Control.{region}
 use Rattle.store.specs.Write.{unwritten}
 use Rattle.store.proofs.write.unwritten.Goals as goal
 
-pub returns-then-written-at : goal.returns-then-written-at
+pub returns-then-written_at : goal.returns-then-written_at
 unfolding unwritten region
-returns-then-written-at c = simp (sym c.if-written-at.ensures)
+returns-then-written_at c = simp (sym c.if-written_at.ensures)
 
 pub returns : goal.returns
 unfolding unwritten region
-returns c = simp (sym c.if-written-at.ensures) (ap Some c.seek.ensures.is)
+returns c = simp (sym c.if-written_at.ensures) (ap Some c.seek.ensures.is)

@@ -7,17 +7,17 @@ pub versions-init : goal.versions-init
 unfolding found_in
 versions-init c = ap (found_from 94 c.args.block.now c.args.key.now c.args.moment) c.first-at.ensures
 
-pub returns-then-is-wanted : goal.returns-then-is-wanted
-returns-then-is-wanted c =
-    walk_finds c.versions.i c.args.block.now c.args.key.now c.args.moment c.versions.at c.in-Some.place _ (omega arith) c.in-Some.is c.if-is-wanted.ensures c.versions.invariant
+pub returns-then-is_wanted : goal.returns-then-is_wanted
+returns-then-is_wanted c =
+    walk_finds c.versions.i c.args.block.now c.args.key.now c.args.moment c.versions.at c.in-Some.place _ (omega arith) c.in-Some.is c.if-is_wanted.ensures c.versions.invariant
 
 pub versions-preserved : goal.versions-preserved
 versions-preserved c =
     walk_goes_on c.versions.i c.args.block.now c.args.key.now c.args.moment c.versions.at c.in-Some.place c.next-at.result _ (omega arith) c.in-Some.is
-    c.if-is-wanted.ensures c.next-at.ensures c.versions.invariant
+    c.if-is_wanted.ensures c.next-at.ensures c.versions.invariant
 
 pub returns-after-versions : goal.returns-after-versions
 returns-after-versions c = search (rules, walk_spent)
 
-pub returns-in-default : goal.returns-in-default
-returns-in-default c = search (rules, walk_ends)
+pub returns-in_default : goal.returns-in_default
+returns-in_default c = search (rules, walk_ends)

@@ -6,12 +6,12 @@ use Rattle.table.proofs.block.is_wanted.Goals as goal
 
 pub returns-in-Same : goal.returns-in-Same
 unfolding OrderSays
-returns-in-Same c = grind (arith, nat_tests, c.in-Same.ensures, c.key-of.ensures)
+returns-in-Same c = grind (arith, nat_tests, c.in-Same.ensures, c.key_of.ensures)
 
 pub returns-in-Before : goal.returns-in-Before
 unfolding OrderSays
-returns-in-Before c = grind (arith, nat_tests, c.in-Before.ensures, c.key-of.ensures, before_apart)
+returns-in-Before c = grind (arith, nat_tests, c.in-Before.ensures, c.key_of.ensures, before_apart)
 
 pub returns-in-Behind : goal.returns-in-Behind
 unfolding OrderSays
-returns-in-Behind c = grind (arith, nat_tests, c.in-Behind.ensures, c.key-of.ensures)
+returns-in-Behind c = grind (arith, nat_tests, c.in-Behind.ensures, c.key_of.ensures)

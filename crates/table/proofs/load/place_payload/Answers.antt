@@ -12,5 +12,5 @@ pub returns : goal.returns
 returns c =
     let at = c.args.got * 504 in
     let e : at + 504 - at ≡ 504 = omega arith in
-    ap (λ k. take at c.args.row.now ++ (c.copy-payload.new.row ++ drop k (drop at c.args.row.now))) e
-    ∙ placed_there c.args.got c.args.page.now c.args.row.now c.copy-payload.new.row at (omega arith) (omega arith) refl c.copy-payload.ensures
+    ap (λ k. take at c.args.row.now ++ (c.copy_payload.new.row ++ drop k (drop at c.args.row.now))) e
+    ∙ placed_there c.args.got c.args.page.now c.args.row.now c.copy_payload.new.row at (omega arith) (omega arith) refl c.copy_payload.ensures

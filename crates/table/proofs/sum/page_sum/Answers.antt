@@ -9,7 +9,7 @@ loop-i-init c = sum_none c.args.page.now
 pub loop-i-preserved : goal.loop-i-preserved
 loop-i-preserved c =
     sym (sum_more c.loop-i.i c.loop-i.h _ c.args.page.now (omega arith)
-    (mod-add-mod (c.loop-i.h * 6364136223846793005) (2 ^ 64) c.read-u64.result ∙ ap (λ w. (c.loop-i.h * 6364136223846793005 + w) % 2 ^ 64) c.read-u64.ensures))
+    (mod-add-mod (c.loop-i.h * 6364136223846793005) (2 ^ 64) c.read_u64.result ∙ ap (λ w. (c.loop-i.h * 6364136223846793005 + w) % 2 ^ 64) c.read_u64.ensures))
     ∙ c.loop-i.invariant
 
 pub returns : goal.returns

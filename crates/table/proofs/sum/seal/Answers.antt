@@ -5,7 +5,7 @@ use Rattle.table.proofs.sum.seal.Goals as goal
 
 pub returns-then-page-ge512 : goal.returns-then-page-ge512
 returns-then-page-ge512 c =
-    sealed_long c.args.page.now _ c.page-sum-sum.result (omega arith) c.page-sum-sum.ensures (c.copy-from-slice.ensures.after ∙ c.to-le-bytes.ensures ∙ bytes_8 c.page-sum-sum.result)
+    sealed_long c.args.page.now _ c.page_sum-sum.result (omega arith) c.page_sum-sum.ensures (c.copy_from_slice.ensures.after ∙ c.to_le_bytes.ensures ∙ bytes_8 c.page_sum-sum.result)
 
 pub returns-else-page-ge512 : goal.returns-else-page-ge512
 returns-else-page-ge512 c = sealed_short c.args.page.now (omega arith)

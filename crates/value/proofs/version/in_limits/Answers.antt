@@ -3,13 +3,13 @@ use Rattle.std.proofs.lemmas.Bool.Decides.{nat_tests}
 use Rattle.value.specs.Encoding.{limits}
 use Rattle.value.proofs.version.in_limits.Goals as goal
 
-pub returns-then-key-len-eq0 : goal.returns-then-key-len-eq0
+pub returns-then-key_len-eq0 : goal.returns-then-key_len-eq0
 unfolding limits
-returns-then-key-len-eq0 c = grind (arith, nat_tests)
+returns-then-key_len-eq0 c = grind (arith, nat_tests)
 
-pub returns-then-moment-ge-TOO-LATE : goal.returns-then-moment-ge-TOO-LATE
+pub returns-then-moment-ge-TOO_LATE : goal.returns-then-moment-ge-TOO_LATE
 unfolding limits
-returns-then-moment-ge-TOO-LATE c = grind (arith, nat_tests)
+returns-then-moment-ge-TOO_LATE c = grind (arith, nat_tests)
 
 pub returns-then-not-gone : goal.returns-then-not-gone
 unfolding limits

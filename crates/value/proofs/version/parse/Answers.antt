@@ -7,20 +7,20 @@ use Rattle.value.proofs.version.parse.Goals as goal
 pub returns-then-from-lt-HEAD : goal.returns-then-from-lt-HEAD
 returns-then-from-lt-HEAD c = record { is = none_stands _ _ _ c.rest-from.ensures.is (λ s. omega arith); lies = tt }
 
-pub returns-then-mark-ge-UNKNOWN-KIND : goal.returns-then-mark-ge-UNKNOWN-KIND
-returns-then-mark-ge-UNKNOWN-KIND c = record { is = none_stands _ _ _ c.rest-from.ensures.is (λ s. omega arith); lies = tt }
+pub returns-then-mark-ge-UNKNOWN_KIND : goal.returns-then-mark-ge-UNKNOWN_KIND
+returns-then-mark-ge-UNKNOWN_KIND c = record { is = none_stands _ _ _ c.rest-from.ensures.is (λ s. omega arith); lies = tt }
 
-pub returns-then-read-u32-ne0 : goal.returns-then-read-u32-ne0
-returns-then-read-u32-ne0 c = record { is = none_stands _ _ _ c.rest-from.ensures.is (λ s. omega arith); lies = tt }
+pub returns-then-read_u32-ne0 : goal.returns-then-read_u32-ne0
+returns-then-read_u32-ne0 c = record { is = none_stands _ _ _ c.rest-from.ensures.is (λ s. omega arith); lies = tt }
 
-pub returns-then-not-in-limits : goal.returns-then-not-in-limits
-returns-then-not-in-limits c =
+pub returns-then-not-in_limits : goal.returns-then-not-in_limits
+returns-then-not-in_limits c =
     let from = c.rest-from.result.now in
     let e : limits (key_length from) (moment_in from) (gone_in from) (value_length from) ≡ false = cc in
     record { is = none_stands _ _ _ c.rest-from.ensures.is (λ s. both_ways _ e s.limited); lies = tt }
 
-pub returns-then-from-key-len : goal.returns-then-from-key-len
-returns-then-from-key-len c = record { is = none_stands _ _ _ c.rest-from.ensures.is (λ s. omega arith); lies = tt }
+pub returns-then-from-key_len : goal.returns-then-from-key_len
+returns-then-from-key_len c = record { is = none_stands _ _ _ c.rest-from.ensures.is (λ s. omega arith); lies = tt }
 
 pub returns : goal.returns
 returns c =

@@ -9,7 +9,7 @@ loop-i-init c = refl
 
 pub loop-i-preserved : goal.loop-i-preserved
 loop-i-preserved c =
-    c.write-word.ensures
+    c.write_word.ensures
     ∙ row_next c.loop-i.i c.words-words.result c.args.page.now c.loop-i.page (omega arith) c.loop-i.invariant
 
 pub returns : goal.returns

@@ -3,4 +3,4 @@ use Rattle.manifest.proofs.fields.Manifest.words.Goals as goal
 
 pub returns : goal.returns
 unfolding words_of
-returns c = simp (c.number-of.ensures, c.flag-of.ensures, c.pair.ensures, c.pair-2.ensures)
+returns c = simp (c.number_of.ensures, c.flag_of.ensures, c.pair.ensures, c.pair-2.ensures)

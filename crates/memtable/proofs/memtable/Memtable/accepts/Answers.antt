@@ -3,9 +3,9 @@ use Rattle.std.proofs.lemmas.Bool.Decides.{nat_tests}
 use Rattle.memtable.specs.Memtable.{accepts}
 use Rattle.memtable.proofs.memtable.Memtable.accepts.Goals as goal
 
-pub returns-then-not-has-room : goal.returns-then-not-has-room
+pub returns-then-not-has_room : goal.returns-then-not-has_room
 unfolding accepts
-returns-then-not-has-room c = grind (arith, nat_tests)
+returns-then-not-has_room c = grind (arith, nat_tests)
 
 pub returns-then-self-index : goal.returns-then-self-index
 unfolding accepts

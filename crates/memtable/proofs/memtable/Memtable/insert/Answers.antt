@@ -18,7 +18,7 @@ returns c =
     let e = c.if-not-accepts.ensures in
     let v = version c.args.key.now c.args.moment c.args.gone c.args.value.now in
     record {
-      table = c.with-one.ensures;
+      table = c.with_one.ensures;
       index = index_whole c.args.self c.args.index.now c.args.arena.now v c.seek-at.result c.enter.new.index e c.seek-at.ensures.is c.enter.ensures;
       arena = arena_whole c.args.self c.args.index.now c.args.arena.now v c.append.new.arena e c.append.ensures;
     }

@@ -5,8 +5,8 @@ use Rattle.memtable.proofs.memtable.Memtable.with_one.Goals as goal
 pub returns-then-not-accepts : goal.returns-then-not-accepts
 returns-then-not-accepts c = search (rules, after_none)
 
-pub one-more-requires : goal.one-more-requires
-one-more-requires c =
+pub one_more-requires : goal.one_more-requires
+one_more-requires c =
     countable c.args.self c.args.index c.args.arena c.args.k c.args.v (omega (arith, c.ranges.index)) (omega (arith, c.ranges.arena))
     c.if-not-accepts.ensures
 

@@ -10,16 +10,16 @@ returns-then-next-eq0 c =
 
 pub returns-in-Before : goal.returns-in-Before
 returns-in-Before c =
-    written_by c.args.self c.args.index.now c.args.arena.now c.args.key.now c.args.moment c.seek-next.result c.place-at-place.result Before
-    c.seek-next.ensures.is (omega arith) c.place-at-place.ensures c.in-Before.ensures
+    written_by c.args.self c.args.index.now c.args.arena.now c.args.key.now c.args.moment c.seek-next.result c.place_at-place.result Before
+    c.seek-next.ensures.is (omega arith) c.place_at-place.ensures c.in-Before.ensures
 
 pub returns-in-Same : goal.returns-in-Same
 returns-in-Same c =
-    ap (λ m. eqb m c.args.moment) c.moment-at.ensures
-    ∙ written_by c.args.self c.args.index.now c.args.arena.now c.args.key.now c.args.moment c.seek-next.result c.place-at-place.result Same
-    c.seek-next.ensures.is (omega arith) c.place-at-place.ensures c.in-Same.ensures
+    ap (λ m. eqb m c.args.moment) c.moment_at.ensures
+    ∙ written_by c.args.self c.args.index.now c.args.arena.now c.args.key.now c.args.moment c.seek-next.result c.place_at-place.result Same
+    c.seek-next.ensures.is (omega arith) c.place_at-place.ensures c.in-Same.ensures
 
 pub returns-in-Behind : goal.returns-in-Behind
 returns-in-Behind c =
-    written_by c.args.self c.args.index.now c.args.arena.now c.args.key.now c.args.moment c.seek-next.result c.place-at-place.result Behind
-    c.seek-next.ensures.is (omega arith) c.place-at-place.ensures c.in-Behind.ensures
+    written_by c.args.self c.args.index.now c.args.arena.now c.args.key.now c.args.moment c.seek-next.result c.place_at-place.result Behind
+    c.seek-next.ensures.is (omega arith) c.place_at-place.ensures c.in-Behind.ensures

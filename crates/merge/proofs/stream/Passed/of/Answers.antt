@@ -5,6 +5,6 @@ use Rattle.merge.proofs.stream.Passed.of.Goals.{then-key-lt255, else-key-lt255}
 pub returns : goal.returns
 returns c =
     elim c.if-key-lt255.branch [
-      | then-key-lt255 w ↦ held_short c.args.key.now c.copy-from-slice.new.self _ c.args.below c.copy-from-slice.ensures.after w.len-is w.if-key-lt255.true
-      | else-key-lt255 w ↦ held_long c.args.key.now c.copy-from-slice.new.self _ c.args.below c.copy-from-slice.ensures.after w.len-is w.if-key-lt255.false
+      | then-key-lt255 w ↦ held_short c.args.key.now c.copy_from_slice.new.self _ c.args.below c.copy_from_slice.ensures.after w.len-is w.if-key-lt255.true
+      | else-key-lt255 w ↦ held_long c.args.key.now c.copy_from_slice.new.self _ c.args.below c.copy_from_slice.ensures.after w.len-is w.if-key-lt255.false
     ]

@@ -3,14 +3,14 @@ use Rattle.table.specs.declared.lookup.Entry.{Entry}
 use Rattle.table.proofs.RowLaws.{octets_small}
 use Rattle.table.proofs.cursor.Cursor.wants.Goals as goal
 
-pub overflow-add-entry : goal.overflow-add-entry
-overflow-add-entry c =
+pub overflow_add-entry : goal.overflow_add-entry
+overflow_add-entry c =
     let at : ℕ = 8 * (c.args.self.block % 63) in
     let list = c.args.list.now in
     omega (arith, ap (λ (e : Entry). e.begin) c.entry-entry.ensures, ap (λ (e : Entry). e.len) c.entry-entry.ensures, octets_small (drop at list), octets_small (drop (at + 4) list))
 
-pub overflow-add-entry-2 : goal.overflow-add-entry-2
-overflow-add-entry-2 c =
+pub overflow_add-entry-2 : goal.overflow_add-entry-2
+overflow_add-entry-2 c =
     let at : ℕ = 8 * (c.args.self.block % 63) in
     let list = c.args.list.now in
     omega (arith, ap (λ (e : Entry). e.begin) c.entry-entry.ensures, ap (λ (e : Entry). e.len) c.entry-entry.ensures, octets_small (drop at list), octets_small (drop (at + 4) list))
