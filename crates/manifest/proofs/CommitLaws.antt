@@ -1,5 +1,5 @@
 -- The commit: power-on finds the list that the pages hold, and the next list comes whole or not at all.
-use Rattle.std.proofs.Common.{◌≡◌, ℕ, zero, suc, ◌-◌, ◌%◌, ◌<◌, ◌≤◌, Bool, true, false, eqb, ltb, ◌⊎◌, List, [], length, take, drop, sym, refl, ap, ◌∙◌, inl, inr, arith, le-ltb, lt-ltb, ne_eqb, eqb-true}
+use Rattle.std.proofs.Common.{◌≡◌, ℕ, zero, suc, ◌%◌, ◌<◌, ◌≤◌, Bool, true, false, eqb, ltb, ◌⊎◌, List, [], length, take, drop, sym, refl, ap, ◌∙◌, inl, inr, arith, le-ltb, lt-ltb, ne_eqb, eqb-true}
 use Rattle.std.proofs.lemmas.List.{drop-drop, take-take}
 use Rattle.value.specs.Versions.{pick}
 use Rattle.value.specs.Numbers.{number}

@@ -1,10 +1,10 @@
 -- A list is read from its page's payload as from the page: the sum behind it says nothing of tables.
-use Rattle.std.proofs.Common.{◌≡◌, ℕ, zero, suc, ◌+◌, ◌*◌, ◌%◌, ◌<◌, ◌≤◌, List, [], ◌∷◌, get_or, take, drop, sym, refl, ap, ◌∙◌, arith}
+use Rattle.std.proofs.Common.{◌≡◌, ℕ, zero, suc, ◌+◌, ◌*◌, ◌%◌, ◌<◌, List, [], ◌∷◌, get_or, take, drop, sym, refl, ap, ◌∙◌, arith}
 use Rattle.std.proofs.lemmas.List.{get_or-drop}
 use Rattle.value.specs.Numbers.{number}
 use Rattle.table.specs.Stream.{payload}
 use Rattle.table.proofs.FillLaws.{payload_byte}
-use Rattle.manifest.specs.Manifest.{word_at, table_in, manifest_in}
+use Rattle.manifest.specs.Manifest.{word_at, manifest_in}
 use Rattle.manifest.specs.Commit.{found_in}
 
 -- a number in a row of bytes, from the lowest on; past the end bytes are 0

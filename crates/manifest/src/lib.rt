@@ -1,4 +1,6 @@
 // Which tables there are: the list of tables on pages 0 and 1, where tables lie, and how the list changes at once.
+#![tactic(auto)]
+
 mod choice;
 mod fields;
 mod laws;

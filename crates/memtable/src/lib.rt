@@ -1,4 +1,6 @@
 // What is in memory: versions of keys in two lent rows of words, an arena in the order in which they came and an index in the order of a table.
+#![tactic(auto)]
+
 mod arena;
 mod index;
 mod laws;

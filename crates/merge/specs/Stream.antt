@@ -10,8 +10,8 @@
 --   short v             the version's key is held whole
 --   to_keep, to_show    what is still to come out of a walk from a state, over the rest of a sorted run
 --   latest_of vs s ks   of each of these keys the latest version below a moment, erasures too
-use Rattle.std.specs.Prelude.{◌≡◌, ℕ, Bool, true, false, not, ◌&&◌, List, [], ◌∷◌, ◌++◌, length, take, nat_le, nat_lt}
-use Rattle.value.specs.Versions.{pick, or, same, every, Version, latest, all_keys, all_seen, in_range, kept}
+use Rattle.std.specs.Prelude.{◌≡◌, ℕ, Bool, true, false, not, ◌&&◌, List, [], ◌∷◌, length, take, nat_le, nat_lt}
+use Rattle.value.specs.Versions.{pick, or, same, every, Version, all_keys, all_seen, in_range, kept}
 use Rattle.value.specs.Count.{smaller}
 use Rattle.merge.specs.Padded.{padded}
 use Rattle.value.specs.Sorted.{latest_of, sort, kept_from, visible_from, slim, seek, until}

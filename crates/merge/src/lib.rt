@@ -1,4 +1,6 @@
 // Sorted runs side by side: which of two runs gives the next version, and what a walk over a run shows or keeps.
+#![tactic(auto)]
+
 mod choice;
 mod laws;
 mod stream;

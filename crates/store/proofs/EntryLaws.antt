@@ -1,13 +1,13 @@
 -- One step of the running code is one step of the machine's definition.
-use Rattle.std.proofs.Common.{◌≡◌, ℕ, ◌≤◌, true, false, eqb, List, [], length, sym, refl, ap, ◌∙◌, arith, eq-eqb}
+use Rattle.std.proofs.Common.{◌≡◌, ℕ, ◌≤◌, true, false, List, [], length, sym, refl, arith, eq-eqb}
 use Rattle.std.proofs.lemmas.Bool.Decides.{nat_tests}
 use Rattle.std.proofs.lemmas.List.{length-replicate}
 use Rattle.value.specs.Versions.{version}
 use Rattle.store.specs.Acts.{ActTold}
-use Rattle.store.specs.Promise.{Event, on, said, page, next, refused}
+use Rattle.store.specs.Promise.{on, said, next, refused}
 use Rattle.store.specs.House.{write, erase, get}
-use Rattle.store.specs.Control.{memory_words, control_of}
-use Rattle.store.specs.Write.{wrote, Wrote}
+use Rattle.store.specs.Control.{control_of}
+use Rattle.store.specs.Write.{Wrote}
 use Rattle.store.specs.Get.{got, Got}
 use Rattle.store.specs.Own.{powered, went_on, heard, turned, blank_memory, own}
 use Rattle.store.specs.Entry.{event_of, StepSays, step_fits}

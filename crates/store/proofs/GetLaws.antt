@@ -1,7 +1,7 @@
 -- Getting: the row that is told of a version, number by number; and how a step that is told to get ends.
-use Rattle.std.proofs.Common.{◌≡◌, ℕ, zero, suc, ◌+◌, ◌-◌, ◌<◌, ◌≤◌, min, true, false, List, [], ◌∷◌, ◌++◌, length, get_or, take, drop, Some, None, sym, refl, ap, ◌∙◌, arith, length-append, length-take}
-use Rattle.std.proofs.lemmas.List.{take_all, get_or-take, get_or_append_left, get_or-append_right}
-use Rattle.memtable.specs.Words.{words, byte_behind, row}
+use Rattle.std.proofs.Common.{◌≡◌, ℕ, zero, suc, ◌+◌, ◌-◌, ◌<◌, ◌≤◌, min, true, false, List, ◌∷◌, ◌++◌, length, get_or, drop, Some, None, sym, refl, ap, ◌∙◌, arith, length-append, length-take}
+use Rattle.std.proofs.lemmas.List.{get_or-take, get_or_append_left, get_or-append_right}
+use Rattle.memtable.specs.Words.{words, byte_behind}
 use Rattle.memtable.specs.Arena.{key_length, value_length, key_at, value_at, gone_at}
 use Rattle.memtable.proofs.WordLaws.{length_row, getD_row}
 use Rattle.store.specs.Acts.{ActTold}

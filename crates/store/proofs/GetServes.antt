@@ -1,10 +1,10 @@
 -- Getting serves the house: it shows what is seen in one row or none, and then it has ended.
-use Rattle.std.proofs.Common.{◌≡◌, ℕ, zero, suc, ◌+◌, ◌<◌, ◌≤◌, Bool, true, false, ◌&&◌, eqb, ltb, leb, List, [], ◌∷◌, ◌++◌, length, sym, refl, ap, ◌∙◌, subst, append-nil, arith, le-ltb}
-use Rattle.value.specs.Versions.{pick, every}
+use Rattle.std.proofs.Common.{◌≡◌, ℕ, ◌<◌, Bool, true, ◌&&◌, ltb, leb, List, [], ◌∷◌, ◌++◌, length, sym, refl, ap, ◌∙◌, subst, append-nil, arith, le-ltb}
+use Rattle.value.specs.Versions.{every}
 use Rattle.value.proofs.TestLaws.{and_left_of, and_right_of}
 use Rattle.memtable.specs.Words.{bytes}
-use Rattle.store.specs.House.{House, Command, get, refusal, after, shows, small_command}
-use Rattle.store.specs.Promise.{Event, on, said, next, Act, done, tells, Step, World, world}
+use Rattle.store.specs.House.{House, get, refusal, after, shows, small_command}
+use Rattle.store.specs.Promise.{Event, said, next, done, Step, World}
 use Rattle.store.specs.Account.{Next, NextStep, leavings, TellsRight, nothing, part, StopLeaves, undone, Ends, finished, most_commands, Serves}
 use Rattle.store.specs.Control.{control, control_of, put_control}
 use Rattle.store.specs.Write.{stepped}

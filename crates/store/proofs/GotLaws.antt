@@ -1,11 +1,11 @@
 -- How a get ends: it shows what the house shows, in one row or none.
-use Rattle.std.proofs.Common.{◌≡◌, ℕ, zero, suc, ◌+◌, ◌<◌, ◌≤◌, Bool, true, false, not, ◌&&◌, eqb, ltb, leb, List, [], ◌∷◌, ◌++◌, length, take, Some, None, Option, sym, refl, ap, ◌∙◌, subst, arith, length-append, le-leb, leb-true}
+use Rattle.std.proofs.Common.{◌≡◌, ℕ, ◌≤◌, Bool, true, false, ◌&&◌, ltb, leb, List, [], ◌∷◌, ◌++◌, length, take, Some, None, Option, sym, refl, ap, ◌∙◌, subst, arith, length-append, le-leb, leb-true}
 use Rattle.std.proofs.lemmas.List.{take_all}
-use Rattle.value.specs.Versions.{pick, or, every, those, each, none_of, same, Version, version, latest, living, seen}
+use Rattle.value.specs.Versions.{pick, every, those, each, none_of, same, Version, latest}
 use Rattle.value.proofs.TestLaws.{and_left_of, and_right_of}
-use Rattle.memtable.specs.Words.{words, bytes}
-use Rattle.memtable.specs.Arena.{key_length, value_length, key_at, value_at, gone_at, version_at}
-use Rattle.memtable.specs.Holds.{fits, as_list, Holds}
+use Rattle.memtable.specs.Words.{bytes}
+use Rattle.memtable.specs.Arena.{key_length, key_at, value_at, gone_at, version_at}
+use Rattle.memtable.specs.Holds.{fits, as_list}
 use Rattle.memtable.proofs.WordLaws.{length_row}
 use Rattle.memtable.proofs.AnswerLaws.{find_right}
 use Rattle.store.specs.House.{House, get, shown_as, shows}
@@ -14,7 +14,6 @@ use Rattle.store.specs.Control.{control, control_of, put_control, index_of, aren
 use Rattle.store.specs.Write.{stepped}
 use Rattle.store.specs.Get.{row_at, told_of, sought, got}
 use Rattle.store.specs.declared.control.Phase.TheVariants.{Idle, Shown}
-use Rattle.store.specs.declared.control.Control.{Control}
 use Rattle.store.proofs.HeldLaws.{Held, held_phase}
 
 pub data Outcome (pages : ℕ) (h : House) (m key : List ℕ) (t : ℕ) (s : Step) : Type 0 where

@@ -1,5 +1,5 @@
 -- What memory holds of a house between two steps: every version that came, none of them safe; and how a write keeps that.
-use Rattle.std.proofs.Common.{◌≡◌, ℕ, zero, suc, ◌+◌, ◌*◌, ◌<◌, ◌≤◌, true, List, [], ◌∷◌, ◌++◌, length, sym, refl, ap, ◌∙◌, subst, arith}
+use Rattle.std.proofs.Common.{◌≡◌, ℕ, ◌<◌, ◌≤◌, true, List, [], length, sym, refl, ◌∙◌, subst, arith}
 use Rattle.value.specs.Versions.{Version}
 use Rattle.value.specs.Rising.{rising, last_moment}
 use Rattle.memtable.specs.Memtable.{none}
@@ -9,7 +9,7 @@ use Rattle.memtable.proofs.AnswerLaws.{empty_right, sizes_suffice}
 use Rattle.store.specs.House.{House, house}
 use Rattle.store.specs.Control.{memory_words, control, control_of, put_control, index_of, arena_of}
 use Rattle.store.specs.declared.control.Phase.{Phase}
-use Rattle.store.specs.declared.control.Phase.TheVariants.{Idle, Shown}
+use Rattle.store.specs.declared.control.Phase.TheVariants.{Idle}
 use Rattle.store.proofs.MemoryLaws.{region_put, length_put, control_put}
 
 pub record Held (pages : ℕ) (h : House) (p : Phase) (m : List ℕ) : Type 0 where

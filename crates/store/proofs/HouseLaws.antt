@@ -1,5 +1,5 @@
 -- What a stop leaves of a house.
-use Rattle.std.proofs.Common.{◌≡◌, refl}
+use Rattle.std.proofs.Common.{refl}
 use Rattle.value.proofs.TestLaws.{any_append}
 use Rattle.value.proofs.LatestLaws.{latest_any}
 use Rattle.store.specs.Promise.{StopTwice, NothingNew}

@@ -1,16 +1,14 @@
 -- An account of the machine: what holds at rest, at power-on, between commands and within one. Nothing waits on the device, and memory holds the house.
-use Rattle.std.proofs.Common.{◌≡◌, ℕ, zero, suc, ◌<◌, ◌≤◌, Bool, true, false, ◌&&◌, eqb, ltb, leb, List, [], ◌∷◌, ◌++◌, length, sym, refl, ap, ◌∙◌, subst, arith, eq-eqb}
-use Rattle.value.specs.Versions.{pick, every, Version}
+use Rattle.std.proofs.Common.{◌≡◌, ℕ, ◌≤◌, true, List, [], length, sym, refl, ap, ◌∙◌, subst, eq-eqb}
+use Rattle.value.specs.Versions.{Version}
 use Rattle.value.specs.Rising.{last_moment}
-use Rattle.value.proofs.TestLaws.{and_left_of, and_right_of}
-use Rattle.memtable.specs.Words.{bytes}
-use Rattle.table.specs.Device.{Page, left, blank}
+use Rattle.table.specs.Device.{Page, left}
 use Rattle.table.proofs.DeviceLaws.{length_blank}
 use Rattle.store.specs.House.{House, house, Command, get, small_command, shows}
-use Rattle.store.specs.Promise.{Event, on, said, next, Engine, World, world}
+use Rattle.store.specs.Promise.{Event, on, said, next, World, world}
 use Rattle.store.specs.Account.{Account, leavings, Fresh, WakesUp, WakesOn, WakingStops, IdleStops}
 use Rattle.store.specs.Control.{memory_words, control_of}
-use Rattle.store.specs.Own.{powered, heard, turned, own}
+use Rattle.store.specs.Own.{powered, turned, own}
 use Rattle.store.specs.declared.control.Phase.{Phase}
 use Rattle.store.specs.declared.control.Phase.TheVariants.{Idle, Shown}
 use Rattle.store.proofs.RunLaws.{wake_by}

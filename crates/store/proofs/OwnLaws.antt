@@ -1,5 +1,5 @@
 -- The machine keeps the main promise.
-use Rattle.std.proofs.Common.{◌≡◌, ℕ, ◌<◌, true, false, List, [], sym, refl, ap, ◌∙◌, arith}
+use Rattle.std.proofs.Common.{◌≡◌, ℕ, ◌<◌, true, false, List, refl, ap, ◌∙◌, arith}
 use Rattle.store.specs.House.{House, Command, write, erase, get, range, first_key, last_key, count, flush, compact}
 use Rattle.store.specs.Promise.{Event, said, refused, World}
 use Rattle.store.specs.Account.{NextStep, leavings, TellsRight, nothing, StopLeaves, undone, Ends, unknown, most_commands, Serves, Obligations}
@@ -10,7 +10,7 @@ use Rattle.store.specs.declared.control.Phase.TheVariants.{Idle, Shown}
 use Rattle.store.proofs.RunLaws.{next_by}
 use Rattle.store.proofs.WholeLaws.{whole_of}
 use Rattle.store.proofs.SteadyLaws.{steady}
-use Rattle.store.proofs.OwnAccount.{Rest, Within, begun, shown, account, rest_stops, step_is, fresh, wakes_up, wakes_on, waking_stops, idle_stops}
+use Rattle.store.proofs.OwnAccount.{Within, begun, shown, account, rest_stops, step_is, fresh, wakes_up, wakes_on, waking_stops, idle_stops}
 use Rattle.store.proofs.WriteServes.{write_serves, write_writes, erase_writes}
 use Rattle.store.proofs.GetServes.{get_serves}
 

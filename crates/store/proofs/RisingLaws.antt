@@ -1,6 +1,6 @@
 -- A write that is not refused rises: its moment is not below the last, and its key was not written at it.
-use Rattle.std.proofs.Common.{◌≡◌, ℕ, zero, suc, ◌<◌, ◌≤◌, Bool, true, false, not, ◌&&◌, eqb, ltb, leb, List, [], ◌∷◌, ◌++◌, sym, refl, ap, ◌∙◌, arith, ltb-false, ltb-true, le-ltb, le-leb}
-use Rattle.value.specs.Versions.{pick, or, every, any, same, Version, kept, later_below}
+use Rattle.std.proofs.Common.{◌≡◌, ℕ, ◌≤◌, Bool, true, false, not, ◌&&◌, eqb, ltb, leb, List, [], ◌∷◌, ◌++◌, refl, ap, arith, ltb-false, ltb-true, le-ltb, le-leb}
+use Rattle.value.specs.Versions.{pick, every, any, same, Version, kept}
 use Rattle.value.specs.Rising.{rising, last_moment}
 use Rattle.value.proofs.TestLaws.{and_left_of, and_right_of, or_left_no, or_right_no, every_append}
 

@@ -1,8 +1,8 @@
 -- A run, act by act: where it stands after so many acts, and that it ends, from what each step keeps.
-use Rattle.std.proofs.Common.{◌≡◌, ℕ, zero, suc, ◌<◌, true, ◌&&◌, ltb, leb, List, [], ◌∷◌, ◌++◌, length, sym, refl, subst, arith}
-use Rattle.value.specs.Versions.{pick, Version}
-use Rattle.table.specs.Device.{Device, a_page}
-use Rattle.store.specs.Promise.{Event, on, said, page, next, Act, read, put, settle, tells, done, refused, Step, Engine, World, world, Ran, ran, queued, one_act, runs}
+use Rattle.std.proofs.Common.{◌≡◌, ℕ, zero, suc, ◌<◌, List, sym, refl, subst, arith}
+use Rattle.value.specs.Versions.{Version}
+use Rattle.table.specs.Device.{Device}
+use Rattle.store.specs.Promise.{Event, Act, read, put, settle, tells, done, refused, Step, Engine, World, Ran, one_act, runs}
 use Rattle.store.specs.Account.{Next, NextStep, Account, WakeNext}
 
 -- a run so far: still at it, or over

@@ -1,14 +1,14 @@
 -- The main promise follows from steps that are right: power-on that is cut short again and again, whole commands, commands cut by a stop, and any list of them.
-use Rattle.std.proofs.Common.{◌≡◌, ℕ, zero, suc, ◌+◌, ◌<◌, ◌≤◌, Bool, true, false, ◌&&◌, ◌⊎◌, List, [], ◌∷◌, ◌++◌, length, sym, refl, ◌∙◌, subst, inl, inr, append-nil, arith}
+use Rattle.std.proofs.Common.{◌≡◌, ℕ, suc, ◌+◌, ◌<◌, ◌≤◌, Bool, true, false, ◌⊎◌, List, [], ◌∷◌, ◌++◌, length, sym, refl, ◌∙◌, subst, inl, inr, append-nil, arith}
 use borrow.Author.Tests.{both_ways}
 use Rattle.value.specs.Rising.{last_moment}
 use Rattle.value.specs.Versions.{every, Version}
 use Rattle.value.proofs.TestLaws.{and_left_of, and_right_of}
 use Rattle.value.proofs.KeyLaws.{same_refl}
-use Rattle.table.specs.Device.{Device, Page, left, blank}
-use Rattle.store.specs.House.{House, house, Command, write, erase, get, range, first_key, last_key, count, flush, compact, refusal, after, May, RefusedToo, stopped_house, small_command, shows}
-use Rattle.store.specs.Promise.{Event, on, said, page, next, Act, read, put, settle, tells, done, refused, Engine, World, world, Ran, Steady, Cut, Item, whole, stops, proper, waking, again, Wakes, begins_rows, Right, Whole}
-use Rattle.store.specs.Account.{Next, NextStep, Account, rested, resting, leavings, WakeNext, Ends, unknown, rejected, no_room, finished, TellsRight, nothing, part, StopLeaves, undone, done_already, most_commands, Serves, Obligations, tested, StepsSuffice}
+use Rattle.table.specs.Device.{Device, Page, blank}
+use Rattle.store.specs.House.{House, Command, write, erase, get, range, first_key, last_key, count, flush, compact, refusal, after, May, RefusedToo, stopped_house, small_command, shows}
+use Rattle.store.specs.Promise.{Event, on, said, Act, read, put, settle, tells, done, refused, Engine, World, Ran, Steady, Cut, Item, whole, stops, proper, waking, again, Wakes, begins_rows, Right, Whole}
+use Rattle.store.specs.Account.{Next, NextStep, Account, rested, resting, leavings, WakeNext, Ends, unknown, rejected, no_room, finished, TellsRight, nothing, part, StopLeaves, undone, done_already, most_commands, Obligations, tested, StepsSuffice}
 use Rattle.store.proofs.RunLaws.{Went, at_it, over, went, ends_at}
 
 -- what was told is a beginning of what would have been

@@ -1,10 +1,9 @@
 -- Writing: how a step that is told to write ends, check by check.
-use Rattle.std.proofs.Common.{◌≡◌, ℕ, List, Some, None, Option, sym, refl, ap, ◌∙◌}
+use Rattle.std.proofs.Common.{◌≡◌, ℕ, List, Some, None, refl}
 use Rattle.value.specs.Versions.{Version, version}
 use Rattle.memtable.specs.declared.memtable.Memtable.{Memtable}
 use Rattle.store.specs.Acts.{ActTold}
 use Rattle.store.specs.Write.{key_size, value_size, proper_moment, not_earlier, unwritten, roomy, within_pages, put_in, wrote, Wrote}
-use Rattle.store.specs.declared.told.Told.{Told}
 use Rattle.store.specs.declared.told.Told.TheVariants.{Done, No}
 use Rattle.store.specs.declared.control.Control.{Control}
 

@@ -1,14 +1,13 @@
 -- Writing and erasing serve the house: a step, and they have ended as they may.
-use Rattle.std.proofs.Common.{◌≡◌, ℕ, zero, suc, ◌+◌, ◌*◌, ◌<◌, ◌≤◌, Bool, true, false, ◌&&◌, eqb, ltb, leb, ◌⊎◌, List, [], ◌∷◌, ◌++◌, length, sym, refl, ap, ◌∙◌, subst, inl, inr, arith, lt-ltb, le-leb}
-use Rattle.value.specs.Versions.{pick, every, Version, version, weight}
+use Rattle.std.proofs.Common.{◌≡◌, ℕ, ◌<◌, Bool, true, false, ◌&&◌, ltb, leb, List, [], ◌∷◌, ◌++◌, length, sym, refl, ap, ◌∙◌, subst, inl, inr, arith, lt-ltb, le-leb}
+use Rattle.value.specs.Versions.{every, Version, version, weight}
 use Rattle.value.proofs.TestLaws.{and_left_of, and_right_of}
 use Rattle.memtable.specs.Words.{bytes}
-use Rattle.table.specs.Device.{Device}
 use Rattle.store.specs.House.{House, Command, write, erase, get, a_key, refusal, after, shows, written, unsafe, full_by, RefusedToo, small_command}
-use Rattle.store.specs.Promise.{Event, on, said, next, Act, done, refused, Step, Engine, World, world}
+use Rattle.store.specs.Promise.{Event, said, Step, World, world}
 use Rattle.store.specs.Account.{Next, NextStep, leavings, TellsRight, StopLeaves, Ends, rejected, no_room, finished, nothing, undone, most_commands, Serves}
 use Rattle.store.specs.Control.{control_of}
-use Rattle.store.specs.Write.{stepped, wrote}
+use Rattle.store.specs.Write.{wrote}
 use Rattle.store.specs.Own.{known, heard, turned, own}
 use Rattle.store.specs.declared.control.Phase.TheVariants.{Idle, Shown}
 use Rattle.store.proofs.RunLaws.{next_by}

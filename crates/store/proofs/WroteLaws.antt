@@ -1,9 +1,8 @@
 -- How a write ends, and what memory holds then: as the house may answer.
-use Rattle.std.proofs.Common.{◌≡◌, ℕ, zero, suc, ◌+◌, ◌*◌, ◌<◌, ◌≤◌, Bool, true, false, not, ◌&&◌, eqb, ltb, leb, List, [], ◌∷◌, ◌++◌, length, drop, sym, refl, ap, ◌∙◌, subst, arith, ltb-false, ltb-true, le-ltb, lt-ltb, le-leb, leb-false, leb-true}
-use borrow.Author.Tests.{lt-leb}
-use Rattle.value.specs.Versions.{pick, every, any, same, Version, version, weight, added_up}
-use Rattle.value.specs.Rising.{rising, last_moment}
-use Rattle.value.proofs.TestLaws.{clash, and_left_of, and_right_of}
+use Rattle.std.proofs.Common.{◌≡◌, ℕ, ◌+◌, ◌*◌, ◌<◌, ◌≤◌, Bool, true, false, ◌&&◌, ltb, leb, List, [], ◌∷◌, ◌++◌, length, sym, refl, ap, ◌∙◌, subst, arith, ltb-false, ltb-true, le-ltb, lt-ltb, leb-false, leb-true}
+use Rattle.value.specs.Versions.{pick, Version, weight, added_up}
+use Rattle.value.specs.Rising.{rising}
+use Rattle.value.proofs.TestLaws.{and_left_of, and_right_of}
 use Rattle.memtable.specs.Words.{bytes}
 use Rattle.memtable.specs.Arena.{appended}
 use Rattle.memtable.specs.Index.{entered}
@@ -13,14 +12,14 @@ use Rattle.memtable.specs.Holds.{fits, Holds}
 use Rattle.memtable.specs.declared.memtable.Memtable.{Memtable}
 use Rattle.memtable.proofs.AnswerLaws.{written_right}
 use Rattle.memtable.proofs.InsertLaws.{insert_right, room_right}
-use Rattle.store.specs.House.{House, house, a_key, written_then, write_refusal, written, unsafe, needed, full_by}
+use Rattle.store.specs.House.{House, a_key, written_then, write_refusal, written, unsafe, needed, full_by}
 use Rattle.store.specs.Promise.{Step, done, refused}
 use Rattle.store.specs.Control.{memory_words, control, control_of, put_control, index_of, arena_of}
 use Rattle.store.specs.Write.{stepped, unwritten, in_arena, in_index, put_in, wrote}
 use Rattle.store.specs.declared.control.Phase.TheVariants.{Idle}
 use Rattle.store.specs.declared.control.Control.{Control}
 use Rattle.store.proofs.MemoryLaws.{length_region, region_put, length_put, length_in_arena, arena_in_arena, index_in_arena, length_in_index, index_in_index, arena_in_index}
-use Rattle.store.proofs.RisingLaws.{written_at, write_rises, last_push, kept_all}
+use Rattle.store.proofs.RisingLaws.{write_rises, last_push, kept_all}
 use Rattle.store.proofs.HeldLaws.{Held, put_held}
 
 -- the refusal of a write or an erasure, by its version

@@ -6,7 +6,7 @@
 --   TellsRight     what may have been told on the way
 --   StopLeaves     what a stop on the way may leave
 --   Serves          what is owed of one command, so that each is proved in a file of its own
-use Rattle.std.specs.Prelude.{◌≡◌, ℕ, zero, suc, ◌<◌, ◌≤◌, Bool, true, false, ◌&&◌, List, [], ◌∷◌, ◌++◌, length, nat_le, nat_lt}
+use Rattle.std.specs.Prelude.{◌≡◌, ℕ, suc, ◌<◌, ◌≤◌, Bool, true, false, ◌&&◌, List, [], ◌∷◌, ◌++◌, length, nat_le, nat_lt}
 use Rattle.value.specs.Rising.{last_moment}
 use Rattle.value.specs.Versions.{Version}
 use Rattle.table.specs.Device.{Device, Page, read_page, flushed, left, blank, a_page}

@@ -3,7 +3,7 @@
 --   put_control m k    the memory with other control words; every number is cut to 64 bits
 --   region a n m       n words from a on
 --   within a n f m     the memory with f done to them
-use Rattle.std.specs.Prelude.{ℕ, ◌+◌, ◌%◌, List, [], ◌∷◌, ◌++◌, length, take, drop, ◌==◌, slice_index, slice_set}
+use Rattle.std.specs.Prelude.{ℕ, ◌%◌, List, ◌++◌, take, drop, ◌==◌, slice_index, slice_set}
 use Rattle.value.specs.Versions.{pick}
 use Rattle.memtable.specs.Memtable.{memtable}
 use Rattle.memtable.specs.declared.memtable.Memtable.{Memtable}

@@ -1,8 +1,8 @@
 -- How a step of the whole machine is told to the world outside: events by number, acts by an enum and a lent row.
-use Rattle.std.specs.Prelude.{◌≡◌, ℕ, zero, suc, ◌+◌, ◌-◌, ◌*◌, ◌/◌, ◌%◌, ◌<◌, ◌≤◌, Bool, true, false, not, ◌&&◌, ◌⊎◌, List, [], ◌∷◌, ◌++◌, length, ◌==◌, nat_le}
+use Rattle.std.specs.Prelude.{◌≡◌, ℕ, Bool, true, false, ◌&&◌, List, [], ◌∷◌, length, ◌==◌, nat_le}
 use Rattle.value.specs.Versions.{pick}
-use Rattle.store.specs.House.{Command, write, erase, get, range, first_key, last_key, count, flush, compact}
-use Rattle.store.specs.Promise.{Engine, Event, on, said, page, next, Act, read, put, settle, tells, done, refused, Step}
+use Rattle.store.specs.House.{write, erase, get, range, first_key, last_key, count, flush, compact}
+use Rattle.store.specs.Promise.{Event, on, said, page, next}
 use Rattle.store.specs.Own.{own}
 use Rattle.store.specs.declared.told.Told.{Told}
 use Rattle.store.specs.declared.told.Told.TheVariants.{No}

@@ -1,7 +1,7 @@
 -- What can be asked of the store, and what it is to answer, over one list of versions: a house is that list, what of it is safe, and two moments.
-use Rattle.std.specs.Prelude.{◌≡◌, ℕ, zero, suc, ◌+◌, ◌-◌, ◌*◌, ◌/◌, ◌%◌, ◌<◌, ◌≤◌, Bool, true, false, not, ◌&&◌, ltb, ◌⊎◌, List, [], ◌∷◌, ◌++◌, length, take, drop, ◌==◌, nat_le, nat_lt}
+use Rattle.std.specs.Prelude.{◌≡◌, ℕ, zero, suc, ◌*◌, ◌<◌, Bool, true, false, ◌&&◌, ltb, ◌⊎◌, List, [], ◌∷◌, ◌++◌, length, take, drop, ◌==◌, nat_le, nat_lt}
 use Rattle.value.specs.Rising.{last_moment}
-use Rattle.value.specs.Versions.{pick, or, every, any, those, each, none_of, same, before, begins, Version, version, latest, seen, all_seen, in_range, kept, weight}
+use Rattle.value.specs.Versions.{pick, every, any, each, same, Version, version, seen, all_seen, in_range, kept, weight}
 
 -- what's there; what stays if the machine stops; the latest moment of a write; no moment below this is asked for any more
 pub record House : Type 0 where

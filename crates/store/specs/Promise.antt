@@ -1,7 +1,7 @@
 -- The machine beside its pages, what may happen to both, and what's promised of it. Each promise is a statement, a type whose proof is owed.
-use Rattle.std.specs.Prelude.{◌≡◌, ℕ, zero, suc, ◌+◌, ◌-◌, ◌*◌, ◌/◌, ◌%◌, ◌<◌, ◌≤◌, Bool, true, false, not, ◌&&◌, ltb, ◌⊎◌, List, [], ◌∷◌, ◌++◌, length, ◌==◌, nat_eq, nat_le, nat_lt}
+use Rattle.std.specs.Prelude.{◌≡◌, ℕ, zero, suc, ◌<◌, ◌≤◌, Bool, true, false, ◌&&◌, ltb, ◌⊎◌, List, [], ◌∷◌, ◌++◌, length, ◌==◌, nat_eq, nat_le, nat_lt}
 use Rattle.value.specs.Versions.{pick, every, any, same, Version, latest}
-use Rattle.table.specs.Device.{Device, Page, Write, page_at, read_page, flushed, stopped, blank, a_page, all_written, elsewhere}
+use Rattle.table.specs.Device.{Device, Page, Write, page_at, read_page, flushed, stopped, blank, a_page, elsewhere}
 use Rattle.store.specs.House.{House, house, Command, refusal, after, May, stopped_house, small_command, shows}
 
 pub data Event : Type 0 where

@@ -3,10 +3,10 @@
 --   answered    how the definitions answer: a refusal's number (0 for done), and the rows that are shown
 --   played      the answers to all that is said, one after the other
 --   left_by     the house at the end
-use Rattle.std.specs.Prelude.{◌≡◌, ℕ, true, false, List, [], ◌∷◌, ◌++◌, codes, ◌==◌}
+use Rattle.std.specs.Prelude.{◌≡◌, ℕ, false, List, [], ◌∷◌, codes, ◌==◌}
 use Prim.Native.String.{String}
-use Rattle.value.specs.Versions.{pick, each, Version, version}
-use Rattle.store.specs.House.{House, house, Command, write, erase, get, range, first_key, last_key, count, flush, compact, refusal, after, shown_as, shows, needed, stopped_house}
+use Rattle.value.specs.Versions.{pick, each, version}
+use Rattle.store.specs.House.{House, house, Command, write, erase, get, range, last_key, count, flush, compact, refusal, after, shown_as, shows, needed, stopped_house}
 
 pub data Said : Type 0 where
   command : Command → Said

@@ -2,7 +2,7 @@
 --   checked o r s f     go on with what o hands on, or refuse with r
 --   key_size .. within_pages    the checks, under their functions' names
 --   wrote k m v         a step that is told to write v: what memory is then, and the act
-use Rattle.std.specs.Prelude.{◌≡◌, ℕ, ◌+◌, ◌*◌, Bool, true, false, List, length, Some, None, Option, nat_le, nat_lt}
+use Rattle.std.specs.Prelude.{◌≡◌, ℕ, ◌*◌, List, length, Some, None, Option, nat_le, nat_lt}
 use Rattle.value.specs.Versions.{pick, Version, version}
 use Rattle.memtable.specs.Arena.{appended}
 use Rattle.memtable.specs.Index.{entered}

@@ -1,4 +1,6 @@
 // The store as a machine: one step at a time, it is told an event and answers with an act.
+#![tactic(auto)]
+
 mod control;
 mod entry;
 mod get;

@@ -1,11 +1,10 @@
 -- The versions that a reading passes over stand in front: in a table in order one block decides.
-use Rattle.std.proofs.Common.{◌≡◌, ℕ, zero, suc, ◌+◌, ◌<◌, ◌≤◌, Bool, true, false, not, ◌&&◌, eqb, ltb, leb, ◌⊎◌, List, [], ◌∷◌, ◌++◌, sym, refl, ap, ◌∙◌, inl, inr, append_assoc, arith, ltb-false, ltb-true, le-ltb, lt-ltb, le-leb, leb-false, leb-true}
-use Rattle.std.proofs.lemmas.Bool.Decides.{nat_tests}
+use Rattle.std.proofs.Common.{◌≡◌, ℕ, ◌≤◌, Bool, true, false, ◌&&◌, ltb, leb, ◌⊎◌, List, [], ◌∷◌, ◌++◌, sym, refl, ap, ◌∙◌, inl, inr, append_assoc, arith, ltb-true, le-ltb, lt-ltb, le-leb, leb-false, leb-true}
 use borrow.Author.Tests.{both_ways}
-use Rattle.value.specs.Versions.{pick, or, every, any, none_of, same, before, Version}
+use Rattle.value.specs.Versions.{pick, or, every, none_of, same, before, Version}
 use Rattle.value.specs.Sorted.{comes_first, in_order, lookup}
-use Rattle.value.proofs.TestLaws.{clash, and_left_of, and_right_of, or_cases, every_mono, every_append}
-use Rattle.value.proofs.KeyLaws.{same_refl, same_sym, same_eq, before_irrefl, before_trans, before_not, before_apart, Order, before_it, same_as, behind_it, order}
+use Rattle.value.proofs.TestLaws.{clash, and_left_of, and_right_of, or_cases, every_mono}
+use Rattle.value.proofs.KeyLaws.{same_eq, before_trans, Order, before_it, same_as, behind_it, order}
 use Rattle.value.proofs.LatestLaws.{pick_none}
 use Rattle.value.proofs.SeenLaws.{behind}
 use Rattle.value.proofs.SortLaws.{lookup_absent}

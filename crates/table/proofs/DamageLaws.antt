@@ -1,13 +1,13 @@
 -- Damage within eight bytes in a row changes the checksum: within one word by a multiple of a power of the odd factor, across two words in a part of the second that the first cannot undo.
 use Rattle.std.proofs.Common.{◌≡◌, ℕ, zero, suc, ◌+◌, ◌-◌, ◌*◌, ◌/◌, ◌%◌, ◌^◌, ◌<◌, ◌≤◌, true, List, [], ◌∷◌, ◌++◌, length, take, drop, sym, refl, ap, ◌∙◌, subst, ⊎_elim, mod-eq_of_lt, mul_assoc, mul-add, arith, lit<, pow-add, eqb-true}
 use native.Mathlib.Nat.{add-mul-mod_self_left, pow-succ'}
-use Rattle.std.proofs.lemmas.List.{take-take, drop-drop, drop-take, take_all, take-append-drop, length-take, length-take-le, length-drop}
+use Rattle.std.proofs.lemmas.List.{take-take, drop-drop, drop-take, take_all, take-append-drop, length-take-le, length-drop}
 use Rattle.std.proofs.lemmas.Bool.{cases_lt}
 use Rattle.value.specs.Versions.{every}
 use Rattle.value.specs.Numbers.{number, bytes_of, is_byte, all_bytes}
 use Rattle.value.proofs.TestLaws.{and_left_of, and_right_of}
 use Rattle.value.proofs.NumberLaws.{bytes_of_number, number_below}
-use Rattle.table.specs.Sum.{next_sum, sum_from, page_sum, is_sound, DamageFound}
+use Rattle.table.specs.Sum.{next_sum, sum_from, page_sum, DamageFound}
 
 -- each is a byte
 abbrev All : List ℕ → Type 0

@@ -1,8 +1,8 @@
 -- A page is filled byte by byte, and sealed.
-use Rattle.std.proofs.Common.{◌≡◌, ℕ, zero, suc, ◌+◌, ◌-◌, ◌<◌, ◌≤◌, true, false, List, [], ◌∷◌, ◌++◌, length, get_or, take, drop, set, replicate, sym, refl, ap, ◌∙◌, ⊎_elim, append_assoc, append-nil, arith, length-append, eq-eqb, ne_eqb, le-leb}
+use Rattle.std.proofs.Common.{◌≡◌, ℕ, zero, suc, ◌+◌, ◌-◌, ◌<◌, ◌≤◌, List, [], ◌∷◌, ◌++◌, length, get_or, take, drop, set, replicate, sym, refl, ap, ◌∙◌, ⊎_elim, append_assoc, append-nil, arith, length-append, eq-eqb, ne_eqb, le-leb}
 use Rattle.std.proofs.lemmas.Bool.{cases_lt}
 use Rattle.std.proofs.lemmas.List.{drop_more, set_at, take_all, take_at, drop_at, drop_all, length-take-le, length-drop, take_more, get_or-take, get_or_past, get_or_append_left, get_or-append_right}
-use Rattle.value.specs.Numbers.{bytes_of, put_at}
+use Rattle.value.specs.Numbers.{bytes_of}
 use Rattle.value.proofs.NumberLaws.{length_bytes_of}
 use Rattle.table.specs.Sum.{page_sum, sealed_page}
 use Rattle.table.specs.Stream.{payload, sealed, filled}

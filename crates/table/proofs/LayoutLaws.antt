@@ -1,5 +1,5 @@
 -- What a writer writes, a version at a time, are the blocks, one behind another.
-use Rattle.std.proofs.Common.{◌≡◌, ℕ, zero, suc, ◌+◌, ◌*◌, ◌/◌, ◌<◌, ◌≤◌, Bool, true, false, ◌&&◌, ltb, List, [], ◌∷◌, ◌++◌, length, sym, refl, ap, ◌∙◌, append_assoc, append-nil, arith, ltb-false, ltb-true, le-ltb, lt-ltb}
+use Rattle.std.proofs.Common.{◌≡◌, ℕ, ◌+◌, Bool, true, false, List, [], ◌∷◌, ◌++◌, sym, refl, ap, ◌∙◌, append_assoc, append-nil, arith, lt-ltb}
 use Rattle.value.specs.Versions.{pick, Version, added_up}
 use Rattle.value.specs.Numbers.{bytes_of}
 use Rattle.value.specs.Encoding.{encoding, encoded_length, encode_all}

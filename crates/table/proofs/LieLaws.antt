@@ -1,15 +1,14 @@
 -- What lies on pages is read back, an entry and a block at a time.
-use Rattle.std.proofs.Common.{◌≡◌, ℕ, zero, suc, ◌+◌, ◌-◌, ◌*◌, ◌/◌, ◌%◌, ◌<◌, ◌≤◌, true, List, [], ◌∷◌, ◌++◌, length, get_or, take, drop, sym, refl, ap, ◌∙◌, subst, append_assoc, arith, length-append}
+use Rattle.std.proofs.Common.{◌≡◌, ℕ, suc, ◌+◌, ◌*◌, ◌<◌, ◌≤◌, List, [], ◌∷◌, ◌++◌, length, get_or, take, drop, sym, ap, ◌∙◌, subst, arith, length-append}
 use Rattle.std.proofs.lemmas.List.{take_at, take-append-le, length-drop, length-take-le}
-use Rattle.value.specs.Versions.{every, Version, added_up}
+use Rattle.value.specs.Versions.{Version}
 use Rattle.value.specs.Sorted.{sort}
 use Rattle.table.specs.Blocks.{last_one}
 use Rattle.table.specs.Layout.{blocks, block_bytes, stream_of_blocks, entry, entries, table_stream, table_entries}
-use Rattle.table.specs.Sizes.{joined, block_length, blocks_length, page_count, SomeIn}
-use Rattle.table.specs.Stream.{payloads, Holds}
-use Rattle.table.specs.Lies.{block_begin, before_block, Lies, LiesElsewhere, EntryRead, BlockRead}
+use Rattle.table.specs.Sizes.{joined, block_length, blocks_length, SomeIn}
+use Rattle.table.specs.Lies.{block_begin, before_block, LiesElsewhere, EntryRead, BlockRead}
 use Rattle.table.proofs.LayoutLaws.{stream_is_blocks, entries_are_blocks}
-use Rattle.table.proofs.SizeLaws.{blocks_hold, block_stands, length_entry, length_entries, length_stream}
+use Rattle.table.proofs.SizeLaws.{blocks_hold, block_stands, length_entry}
 use Rattle.table.proofs.StreamLaws.{holds_elsewhere, span_read}
 use Rattle.table.proofs.SearchLaws.{split_at}
 

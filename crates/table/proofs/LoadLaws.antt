@@ -1,14 +1,10 @@
 -- Page after page the row's front is the payloads of the pages.
-use Rattle.std.proofs.Common.{◌≡◌, ℕ, zero, suc, ◌+◌, ◌-◌, ◌*◌, ◌<◌, ◌≤◌, true, false, ◌&&◌, ltb, leb, List, [], ◌∷◌, ◌++◌, length, take, drop, sym, refl, ap, ◌∙◌, append_assoc, append-nil, arith, length-append, le-ltb, lt-ltb, le-leb}
+use Rattle.std.proofs.Common.{◌≡◌, ℕ, ◌+◌, ◌*◌, ◌<◌, ◌≤◌, List, ◌++◌, length, take, drop, sym, refl, ap, ◌∙◌, append_assoc, append-nil, arith, length-append, le-ltb, lt-ltb, le-leb}
 use borrow.Author.Tests.{lt-leb}
-use Rattle.std.proofs.lemmas.List.{take_at, length-take-le, length-drop}
-use Rattle.value.specs.Versions.{pick}
-use Rattle.value.specs.Numbers.{put_at}
+use Rattle.std.proofs.lemmas.List.{take_at, length-take-le}
 use Rattle.table.specs.Device.{Page, page_at}
 use Rattle.table.specs.Stream.{payload, payloads}
-use Rattle.table.specs.Span.{spanned}
 use Rattle.table.specs.Load.{placed, SpansShort, LoadGoesOn}
-use Rattle.table.specs.declared.load.Load.{Load}
 use Rattle.table.proofs.StreamLaws.{length_payload, payloads_more}
 
 pub spans_short : SpansShort

@@ -1,5 +1,5 @@
 -- A lookup finds what is looked up in the table's versions.
-use Rattle.std.proofs.Common.{◌≡◌, ℕ, zero, suc, ◌+◌, ◌-◌, ◌*◌, ◌/◌, ◌%◌, ◌^◌, ◌<◌, ◌≤◌, min, Bool, true, false, eqb, ltb, ◌⊎◌, List, [], ◌∷◌, ◌++◌, length, get_or, take, drop, Some, None, Option, sym, refl, ap, ◌∙◌, subst, inl, inr, ⊎_elim, arith, le-ltb, lt-ltb, eq-eqb, ne_eqb}
+use Rattle.std.proofs.Common.{◌≡◌, ℕ, zero, suc, ◌+◌, ◌*◌, ◌/◌, ◌%◌, ◌<◌, ◌≤◌, min, Bool, true, false, List, [], ◌∷◌, length, get_or, take, drop, sym, refl, ap, ◌∙◌, subst, ⊎_elim, arith, le-ltb, lt-ltb, eq-eqb, ne_eqb}
 use Rattle.std.proofs.lemmas.List.{take-take, take_at, take_all, drop_at, drop-drop}
 use Rattle.std.proofs.lemmas.Bool.{cases_lt}
 use Rattle.value.specs.Versions.{pick, every, Version}
@@ -16,7 +16,7 @@ use Rattle.table.specs.Stream.{payloads}
 use Rattle.table.specs.Span.{spanned}
 use Rattle.table.specs.Search.{ahead_first, ahead_at, Between, middle, narrowed}
 use Rattle.table.specs.Reading.{head_limit, block_bound, head_key, found_in, Finds}
-use Rattle.table.specs.Lies.{block_begin, before_block, Lies}
+use Rattle.table.specs.Lies.{block_begin, before_block}
 use Rattle.table.specs.Load.{placed}
 use Rattle.table.specs.Lookup.{an_entry, entry_in, probed, begun, entry_of, There, ReadsRight, Looking, Goes_on, with_page, entered, loaded, is_ahead, narrowed_by, found_by, all_came, LookupRight}
 use Rattle.table.specs.declared.search.Search.{Search}
@@ -25,7 +25,7 @@ use Rattle.table.specs.declared.lookup.Entry.{Entry}
 use Rattle.table.specs.declared.lookup.Stage.{Stage}
 use Rattle.table.specs.declared.lookup.Stage.TheVariants.{Entry as EntryStage, Head, Block}
 use Rattle.table.specs.declared.lookup.Lookup.{Lookup}
-use Rattle.table.proofs.SizeLaws.{blocks_hold, length_entry}
+use Rattle.table.proofs.SizeLaws.{blocks_hold}
 use Rattle.table.proofs.StreamLaws.{span_take}
 use Rattle.table.proofs.SearchLaws.{search_narrows, search_ends}
 use Rattle.table.proofs.LoadLaws.{load_goes_on}

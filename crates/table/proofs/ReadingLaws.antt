@@ -1,19 +1,17 @@
 -- A block's bytes tell its bound and its versions.
-use Rattle.std.proofs.Common.{◌≡◌, ℕ, zero, suc, ◌+◌, ◌-◌, ◌*◌, ◌<◌, ◌≤◌, Bool, true, false, ◌&&◌, ltb, leb, List, [], ◌∷◌, ◌++◌, length, get_or, take, drop, Some, None, Option, sym, refl, ap, ◌∙◌, subst, append_assoc, append-nil, arith, length-append}
-use borrow.Author.Tests.{lt-leb}
+use Rattle.std.proofs.Common.{◌≡◌, ℕ, zero, suc, ◌+◌, ◌-◌, ◌*◌, ◌<◌, ◌≤◌, Bool, true, false, ◌&&◌, ltb, List, [], ◌∷◌, ◌++◌, length, get_or, take, drop, Some, None, Option, sym, refl, ap, ◌∙◌, subst, append_assoc, arith, length-append}
 use Rattle.std.proofs.lemmas.List.{drop_all, take_at, drop_at, take-take, drop-drop}
 use Rattle.value.specs.Versions.{pick, every, same, Version, added_up}
 use Rattle.value.specs.Numbers.{number, bytes_of}
-use Rattle.value.specs.Encoding.{head, encoding, encoded_length, encode_all, in_limits, stands, parsed, key_at, version_at, end_of, place_of}
+use Rattle.value.specs.Encoding.{head, encoding, encode_all, in_limits, stands, parsed, version_at, end_of, place_of}
 use Rattle.value.specs.Sorted.{lookup}
 use Rattle.value.proofs.TestLaws.{and_left_of, and_right_of}
 use Rattle.value.proofs.NumberLaws.{length_bytes_of, number_bytes_of}
 use Rattle.value.proofs.EncodingLaws.{limits_parts, length_encoding, parse_reads_encode}
 use Rattle.value.specs.declared.version.Place.{Place}
 use Rattle.table.specs.Blocks.{bound_of}
-use Rattle.table.specs.Layout.{block_limit, block_bytes, versions_length}
-use Rattle.table.specs.Sizes.{block_length}
-use Rattle.table.specs.Reading.{block_bound, first_in, next_in, wanted_at, most_versions, found_from, found_in, Finds, head_key, head_limit, BlockReads, HeadReads, BlockFinds}
+use Rattle.table.specs.Layout.{block_bytes, versions_length}
+use Rattle.table.specs.Reading.{next_in, wanted_at, most_versions, found_from, found_in, Finds, BlockReads, HeadReads, BlockFinds}
 use Rattle.table.proofs.SizeLaws.{short_version}
 use Rattle.table.proofs.StreamLaws.{span_take}
 

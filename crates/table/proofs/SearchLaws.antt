@@ -1,11 +1,11 @@
 -- The search over blocks ends at the block that decides.
-use Rattle.std.proofs.Common.{◌≡◌, ℕ, zero, suc, ◌+◌, ◌-◌, ◌*◌, ◌/◌, ◌%◌, ◌<◌, ◌≤◌, Bool, true, false, ◌&&◌, ltb, ◌⊎◌, List, [], ◌∷◌, ◌++◌, length, get_or, take, drop, sym, refl, ap, ◌∙◌, subst, inl, inr, ⊎_elim, append_assoc, append-nil, arith}
+use Rattle.std.proofs.Common.{◌≡◌, ℕ, zero, suc, ◌+◌, ◌-◌, ◌<◌, ◌≤◌, Bool, true, false, ◌&&◌, ltb, ◌⊎◌, List, [], ◌∷◌, ◌++◌, length, get_or, take, drop, sym, refl, ap, ◌∙◌, subst, inl, inr, append_assoc, append-nil, arith}
 use Rattle.std.proofs.lemmas.List.{length-drop}
-use Rattle.value.specs.Versions.{pick, every, same, before, Version}
+use Rattle.value.specs.Versions.{every, same, before, Version}
 use Rattle.value.specs.Sorted.{comes_first, in_order, lookup}
 use Rattle.value.proofs.TestLaws.{clash, and_left_of, and_right_of, or_cases}
 use Rattle.value.proofs.KeyLaws.{same_eq, before_trans}
-use Rattle.table.specs.Blocks.{no_bound, bound_of, ahead, last_one, not_ahead}
+use Rattle.table.specs.Blocks.{no_bound, last_one, not_ahead}
 use Rattle.table.specs.Sizes.{joined, SomeIn}
 use Rattle.table.specs.Search.{head_before, HeadsRise, ahead_first, ahead_at, Between, middle, narrowed, SearchNarrows, SearchEnds}
 use Rattle.table.proofs.BlockLaws.{order_back, block_decides, none_decides, ahead_falls}

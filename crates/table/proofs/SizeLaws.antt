@@ -1,5 +1,5 @@
 -- Sizes of tables, from the lengths of their versions.
-use Rattle.std.proofs.Common.{◌≡◌, ℕ, zero, suc, ◌+◌, ◌*◌, ◌/◌, ◌<◌, ◌≤◌, Bool, true, false, ◌&&◌, ltb, List, [], ◌∷◌, ◌++◌, length, take, drop, sym, refl, ap, ◌∙◌, append_assoc, append-nil, zero-add, arith, length-append, ltb-false, ltb-true, le-ltb, lt-ltb}
+use Rattle.std.proofs.Common.{◌≡◌, ℕ, suc, ◌+◌, ◌*◌, ◌<◌, ◌≤◌, Bool, true, false, ltb, List, [], ◌∷◌, ◌++◌, length, drop, sym, refl, ap, ◌∙◌, append-nil, zero-add, arith, length-append, ltb-false, ltb-true}
 use Rattle.std.proofs.lemmas.List.{drop_at, drop-drop}
 use Rattle.value.specs.Versions.{pick, every, Version, added_up, weight}
 use Rattle.value.specs.Numbers.{bytes_of}
@@ -8,7 +8,7 @@ use Rattle.value.proofs.TestLaws.{and_left_of, and_right_of}
 use Rattle.value.proofs.NumberLaws.{length_bytes_of}
 use Rattle.value.proofs.EncodingLaws.{length_encoding, limits_parts}
 use Rattle.table.specs.Blocks.{bound_of, last_one}
-use Rattle.table.specs.Layout.{block_limit, starts, onto, cut, blocks, block_bytes, stream_of_blocks, versions_length, entry, entries, table_stream, table_entries}
+use Rattle.table.specs.Layout.{block_limit, starts, onto, cut, blocks, block_bytes, stream_of_blocks, versions_length, entry, entries, table_stream}
 use Rattle.table.specs.Sizes.{joined, block_length, blocks_length, page_count, most_blocks, position_pages, most_pages, SomeIn, BlocksHold, AllShort, BlocksShort, BlockStands, TableFits}
 use Rattle.table.proofs.LayoutLaws.{first, others, onto_is, stream_is_blocks, entries_are_blocks}
 

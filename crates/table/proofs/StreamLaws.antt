@@ -1,10 +1,10 @@
 -- A stream comes back from its pages, whole and in spans.
-use Rattle.std.proofs.Common.{◌≡◌, ℕ, zero, suc, ◌+◌, ◌-◌, ◌*◌, ◌/◌, ◌%◌, ◌<◌, ◌≤◌, Bool, true, false, ◌&&◌, List, [], ◌∷◌, ◌++◌, length, take, drop, replicate, sym, refl, ap, ◌∙◌, ⊎_elim, append_assoc, append-nil, add-zero, add-suc, arith, length-append, lt-ltb, eq-eqb, le-leb}
+use Rattle.std.proofs.Common.{◌≡◌, ℕ, zero, suc, ◌+◌, ◌-◌, ◌*◌, ◌/◌, ◌%◌, ◌<◌, ◌≤◌, true, List, [], ◌∷◌, ◌++◌, length, take, drop, replicate, sym, refl, ap, ◌∙◌, ⊎_elim, append_assoc, arith, length-append, eq-eqb}
 use Rattle.std.proofs.lemmas.Bool.{cases_lt}
-use Rattle.std.proofs.lemmas.List.{drop-take, drop_at, drop-drop, take_at, take-take, take_all, drop_all, take-append-le, drop-append-le, take-append-drop, length-take, length-take-le, length-drop, length-replicate}
+use Rattle.std.proofs.lemmas.List.{drop-take, drop_at, drop-drop, take_at, take-take, take_all, take-append-le, drop-append-le, take-append-drop, length-take-le, length-drop, length-replicate}
 use Rattle.value.specs.Versions.{every}
 use Rattle.value.specs.Numbers.{number, bytes_of, is_byte, all_bytes}
-use Rattle.value.proofs.TestLaws.{and_left_of, and_right_of, every_append}
+use Rattle.value.proofs.TestLaws.{every_append}
 use Rattle.value.proofs.NumberLaws.{length_bytes_of, all_bytes_of, number_bytes_of}
 use Rattle.table.specs.Device.{Page, page_at, a_page}
 use Rattle.table.specs.Sum.{page_sum, is_sound}

@@ -1,8 +1,8 @@
 -- The writer's pages are the table's, however the handing over was cut into steps: every step keeps what is owed.
-use Rattle.std.proofs.Common.{◌≡◌, ℕ, zero, suc, ◌+◌, ◌-◌, ◌*◌, ◌%◌, ◌<◌, ◌≤◌, min, Bool, true, false, ◌&&◌, eqb, ltb, leb, List, [], ◌∷◌, ◌++◌, length, take, drop, sym, refl, ap, ◌∙◌, subst, append_assoc, append-nil, arith, length-append, ltb-false, ltb-true, le-ltb, lt-ltb, eq-eqb, ne_eqb, eqb-true, le-leb, leb-false, leb-true}
-use borrow.Author.Tests.{eqb-false, lt-leb}
-use Rattle.std.proofs.lemmas.List.{drop-drop, drop_at, take-append-drop, length-drop, length-take, length-take-le, drop_all}
-use Rattle.value.specs.Versions.{pick, or, every, Version}
+use Rattle.std.proofs.Common.{◌≡◌, ℕ, suc, ◌+◌, ◌*◌, ◌%◌, ◌<◌, ◌≤◌, Bool, true, false, eqb, ltb, List, [], ◌∷◌, ◌++◌, length, take, drop, sym, refl, ap, ◌∙◌, subst, append_assoc, append-nil, arith, length-append, ltb-false, lt-ltb, ne_eqb, eqb-true}
+use borrow.Author.Tests.{eqb-false}
+use Rattle.std.proofs.lemmas.List.{drop-drop, drop_at, take-append-drop, length-drop, length-take-le, drop_all}
+use Rattle.value.specs.Versions.{every, Version}
 use Rattle.value.specs.Numbers.{bytes_of}
 use Rattle.value.specs.Encoding.{encoding, encoded_length, in_limits}
 use Rattle.value.proofs.TestLaws.{and_left_of, and_right_of}
@@ -12,7 +12,7 @@ use Rattle.table.specs.Blocks.{bound_of}
 use Rattle.table.specs.Layout.{block_limit, starts, stream_from, entry, entries_from, table_entries}
 use Rattle.table.specs.Sum.{page_sum}
 use Rattle.table.specs.Stream.{payload, sealed, page_of}
-use Rattle.table.specs.Writing.{wrap, writer, due_of, took, put_data, put_positions, begins, gave, closed, block_used, entries_left, brings, ends_block, Owes, WriterBegins, WriterTakes, WriterPuts, WriterGives, WriterEnds}
+use Rattle.table.specs.Writing.{wrap, writer, put_data, put_positions, gave, block_used, entries_left, brings, ends_block, Owes, WriterBegins, WriterTakes, WriterPuts, WriterGives, WriterEnds}
 use Rattle.table.proofs.SizeLaws.{short_version, length_entry}
 use Rattle.table.proofs.StreamLaws.{payload_front}
 use Rattle.table.specs.declared.writer.Writer.{Writer}

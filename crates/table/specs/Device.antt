@@ -1,6 +1,6 @@
 -- Pages that keep what is written, and what a stop may leave of it. A write waits in a queue until it is settled with all that wait.
-use Rattle.std.specs.Prelude.{◌≡◌, ℕ, zero, suc, ◌+◌, ◌-◌, ◌*◌, ◌/◌, ◌%◌, ◌<◌, ◌≤◌, Bool, true, false, not, ◌&&◌, List, [], ◌∷◌, ◌++◌, length, take, drop, ◌==◌, nat_lt}
-use Rattle.value.specs.Versions.{pick, or, every}
+use Rattle.std.specs.Prelude.{ℕ, zero, suc, Bool, true, false, ◌&&◌, List, [], ◌∷◌, ◌++◌, length, take, drop, ◌==◌, nat_lt}
+use Rattle.value.specs.Versions.{pick, every}
 
 abbrev pub Page : Type 0
 Page = List ℕ

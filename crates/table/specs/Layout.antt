@@ -7,8 +7,8 @@
 --   entry at n         where a block begins in the stream, and its length
 --   entries at bs      the entries of blocks one behind another
 --   entries_from b n vs   the same, as a writer goes on with it: the block being written begins at b and has n bytes
-use Rattle.std.specs.Prelude.{◌≡◌, ℕ, zero, suc, ◌+◌, ◌*◌, ◌/◌, ◌<◌, ◌≤◌, Bool, true, false, List, [], ◌∷◌, ◌++◌, length, nat_lt}
-use Rattle.value.specs.Versions.{pick, Version, added_up, weight}
+use Rattle.std.specs.Prelude.{◌≡◌, ℕ, ◌+◌, Bool, List, [], ◌∷◌, ◌++◌, nat_lt}
+use Rattle.value.specs.Versions.{pick, Version, added_up}
 use Rattle.value.specs.Numbers.{bytes_of}
 use Rattle.value.specs.Encoding.{encoding, encoded_length, encode_all}
 use Rattle.table.specs.Blocks.{bound_of, last_one}

@@ -2,7 +2,7 @@
 --   block_begin bs i     where block number i begins in the stream
 --   before_block bs i    the version before it, if there is one
 --   Lies start first n ps vs    its positions lie from page `start` on, its stream from page `first` on, and it has n blocks
-use Rattle.std.specs.Prelude.{◌≡◌, ℕ, zero, suc, ◌+◌, ◌*◌, ◌/◌, ◌%◌, ◌<◌, ◌≤◌, true, List, [], ◌∷◌, ◌++◌, length, take, drop, slice_index_or}
+use Rattle.std.specs.Prelude.{◌≡◌, ℕ, ◌+◌, ◌*◌, ◌/◌, ◌%◌, ◌<◌, ◌≤◌, true, List, [], length, take, drop, slice_index_or}
 use Rattle.value.specs.Versions.{every, Version}
 use Rattle.value.specs.Rising.{rising}
 use Rattle.value.specs.Encoding.{in_limits}

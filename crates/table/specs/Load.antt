@@ -2,7 +2,7 @@
 --   wanted l           the page that is wanted next, if one is
 --   placed n p row     the row with a page's payload behind those that came before it: at most four, in a row of 2,016 bytes or more
 --   took l             a page more has come
-use Rattle.std.specs.Prelude.{◌≡◌, ℕ, ◌+◌, ◌*◌, ◌<◌, ◌≤◌, ◌&&◌, List, ◌++◌, length, take, Some, None, Option, nat_le, nat_lt}
+use Rattle.std.specs.Prelude.{◌≡◌, ℕ, ◌+◌, ◌*◌, ◌<◌, ◌≤◌, ◌&&◌, List, length, take, Some, None, Option, nat_le, nat_lt}
 use Rattle.value.specs.Versions.{pick}
 use Rattle.value.specs.Numbers.{put_at}
 use Rattle.table.specs.Device.{Page, page_at}

@@ -5,7 +5,7 @@
 --   entered, narrowed_by, found_by     what is done when an entry, a head, or the block that decides was read
 --   There x ps vs       the table lies there, and its numbers have room
 --   Looking             what a lookup knows: what is left to look at, and that what it reads is the table's
-use Rattle.std.specs.Prelude.{◌≡◌, ℕ, zero, suc, ◌+◌, ◌*◌, ◌<◌, ◌≤◌, min, Bool, true, false, List, [], length, take, Some, None, Option, ◌==◌, nat_lt, slice_index_or}
+use Rattle.std.specs.Prelude.{◌≡◌, ℕ, suc, ◌+◌, ◌*◌, ◌<◌, ◌≤◌, min, Bool, true, false, List, [], length, take, Some, None, Option, ◌==◌, nat_lt, slice_index_or}
 use Rattle.value.specs.Versions.{pick, Version}
 use Rattle.value.specs.Numbers.{part, number_at}
 use Rattle.value.specs.Sorted.{sort, lookup}
@@ -21,7 +21,6 @@ use Rattle.table.specs.Writing.{wrap}
 use Rattle.table.specs.Search.{Between, middle, narrowed}
 use Rattle.table.specs.Reading.{head_limit, block_bound, head_key, found_in, Finds}
 use Rattle.table.specs.Lies.{block_begin, Lies}
-use Rattle.table.specs.declared.load.Load.{Load}
 use Rattle.table.specs.declared.search.Search.{Search}
 use Rattle.table.specs.declared.lookup.Extent.{Extent}
 use Rattle.table.specs.declared.lookup.Entry.{Entry}

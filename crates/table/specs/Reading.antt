@@ -5,7 +5,7 @@
 --   head_key row         the key of its first version, of which no more than the key has to be there
 --   wanted_at row k s p  is the version at p one of k below s?
 --   found_in row k s     where the first such version lies
-use Rattle.std.specs.Prelude.{◌≡◌, ℕ, zero, suc, ◌+◌, ◌<◌, ◌≤◌, Bool, true, false, ◌&&◌, List, [], ◌∷◌, ◌++◌, length, take, Some, None, Option, nat_lt, slice_index}
+use Rattle.std.specs.Prelude.{◌≡◌, ℕ, zero, suc, ◌<◌, ◌≤◌, Bool, true, ◌&&◌, List, [], ◌∷◌, take, Some, None, Option, nat_lt, slice_index}
 use Rattle.value.specs.Versions.{pick, every, same, Version}
 use Rattle.value.specs.Numbers.{part, number_at}
 use Rattle.value.specs.Encoding.{in_limits, parsed, key_at, version_at, end_of, place_of}

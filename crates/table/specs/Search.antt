@@ -2,8 +2,8 @@
 --   ahead_at k s bs i    is block number i of bs ahead?
 --   Between k s bs l h   all blocks before l are ahead, and none from h on is
 --   middle, narrowed     the block to look at next, and what is left to look at then
-use Rattle.std.specs.Prelude.{◌≡◌, ℕ, zero, suc, ◌+◌, ◌/◌, ◌<◌, ◌≤◌, min, Bool, true, false, List, [], ◌∷◌, ◌++◌, length, take, slice_index_or}
-use Rattle.value.specs.Versions.{pick, every, before, Version}
+use Rattle.std.specs.Prelude.{◌≡◌, ℕ, suc, ◌+◌, ◌/◌, ◌<◌, ◌≤◌, min, Bool, true, false, List, [], ◌∷◌, length, take, slice_index_or}
+use Rattle.value.specs.Versions.{before, Version}
 use Rattle.value.specs.Sorted.{in_order, lookup}
 use Rattle.table.specs.Blocks.{no_bound, bound_of, ahead, last_one}
 use Rattle.table.specs.Sizes.{joined, SomeIn}

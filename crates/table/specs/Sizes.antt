@@ -6,7 +6,7 @@
 --   most_blocks w        how many blocks versions that weigh w may take at most
 --   position_pages w     how many pages are kept for their positions
 --   most_pages w         how many pages a table of weight w may take at most
-use Rattle.std.specs.Prelude.{◌≡◌, ℕ, zero, suc, ◌+◌, ◌*◌, ◌/◌, ◌<◌, ◌≤◌, true, List, [], ◌∷◌, ◌++◌, length, take, drop}
+use Rattle.std.specs.Prelude.{◌≡◌, ℕ, suc, ◌+◌, ◌*◌, ◌/◌, ◌<◌, ◌≤◌, true, List, [], ◌∷◌, ◌++◌, length, drop}
 use Rattle.value.specs.Versions.{every, Version, added_up, weight}
 use Rattle.value.specs.Encoding.{in_limits}
 use Rattle.table.specs.Blocks.{last_one}

@@ -1,5 +1,5 @@
 -- A span of a stream, by the pages that it lies on.
-use Rattle.std.specs.Prelude.{ℕ, ◌+◌, ◌*◌, ◌/◌, ◌%◌, min}
+use Rattle.std.specs.Prelude.{ℕ, ◌+◌, ◌/◌, ◌%◌, min}
 use Rattle.table.specs.Writing.{wrap}
 use Rattle.table.specs.declared.span.Span.{Span}
 

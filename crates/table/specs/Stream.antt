@@ -4,10 +4,10 @@
 --   payloads ps first n   the payloads of n pages, from one on
 --   holds ps first bs     these pages hold these bytes, from page `first` on
 --   page_of bs i          page number i of a stream
-use Rattle.std.specs.Prelude.{◌≡◌, ℕ, zero, suc, ◌+◌, ◌*◌, ◌/◌, ◌%◌, ◌<◌, ◌≤◌, true, List, [], ◌∷◌, ◌++◌, length, take, drop, replicate, ◌==◌}
+use Rattle.std.specs.Prelude.{◌≡◌, ℕ, zero, suc, ◌+◌, ◌*◌, ◌/◌, ◌%◌, ◌<◌, ◌≤◌, true, List, [], ◌++◌, length, take, drop, replicate, ◌==◌}
 use Rattle.value.specs.Versions.{pick}
 use Rattle.value.specs.Numbers.{bytes_of, all_bytes}
-use Rattle.table.specs.Device.{Page, page_at, set_page, a_page}
+use Rattle.table.specs.Device.{Page, page_at, a_page}
 use Rattle.table.specs.Sum.{page_sum, is_sound}
 use Rattle.table.specs.Sizes.{page_count}
 

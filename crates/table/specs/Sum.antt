@@ -5,7 +5,7 @@
 --   stored_sum p      the sum that a page carries
 --   is_sound p        the two are one
 --   sealed_page p     a page with its sum written over its last eight bytes
-use Rattle.std.specs.Prelude.{◌≡◌, ℕ, zero, suc, ◌+◌, ◌*◌, ◌%◌, ◌^◌, ◌<◌, ◌≤◌, Bool, true, false, List, [], ◌∷◌, ◌++◌, length, take, drop, replicate, ◌==◌, nat_le}
+use Rattle.std.specs.Prelude.{◌≡◌, ℕ, zero, suc, ◌+◌, ◌*◌, ◌%◌, ◌^◌, Bool, true, false, List, length, take, drop, replicate, ◌==◌, nat_le}
 use Rattle.value.specs.Versions.{pick}
 use Rattle.value.specs.Numbers.{number, number_at, bytes_of, put_at, all_bytes}
 

@@ -2,12 +2,12 @@
 --   due_of w        what it waits for
 --   took, put_data, put_positions, gave, closed    the functions of the writer, under their names
 --   Owes            with these bytes on the pages being filled and in hand, and these versions still to come, the pages put and what is to be put are the table's
-use Rattle.std.specs.Prelude.{◌≡◌, ℕ, zero, suc, ◌+◌, ◌-◌, ◌*◌, ◌%◌, ◌<◌, ◌≤◌, min, Bool, true, false, List, [], ◌∷◌, ◌++◌, length, take, drop, ◌==◌, nat_le, nat_lt}
+use Rattle.std.specs.Prelude.{◌≡◌, ℕ, ◌+◌, ◌-◌, ◌*◌, ◌%◌, ◌<◌, ◌≤◌, min, Bool, true, List, [], ◌∷◌, ◌++◌, length, take, drop, ◌==◌, nat_le, nat_lt}
 use Rattle.value.specs.Versions.{pick, or, every, Version}
 use Rattle.value.specs.Numbers.{bytes_of}
 use Rattle.value.specs.Encoding.{encoding, encoded_length, in_limits}
 use Rattle.table.specs.Blocks.{bound_of}
-use Rattle.table.specs.Layout.{block_limit, starts, stream_from, entry, entries_from, table_stream, table_entries}
+use Rattle.table.specs.Layout.{block_limit, stream_from, entry, entries_from, table_stream, table_entries}
 use Rattle.table.specs.Stream.{sealed, page_of}
 use Rattle.table.specs.declared.writer.Writer.{Writer}
 use Rattle.table.specs.declared.writer.Due.{Due}

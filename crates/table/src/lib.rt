@@ -1,4 +1,6 @@
 // Tables on pages: payloads and checksums, blocks of versions and their positions, a writer that goes a page at a time, the search, and a cursor.
+#![tactic(auto)]
+
 mod block;
 mod cursor;
 mod laws;

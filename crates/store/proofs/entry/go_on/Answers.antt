@@ -1,4 +1,4 @@
-use Rattle.std.proofs.Common.{refl, ap, ◌∙◌}
+use Rattle.std.proofs.Common.{refl}
 use Rattle.store.specs.Acts.{ActTold}
 use Rattle.store.specs.Own.{went_on}
 use Rattle.store.proofs.entry.go_on.Goals as goal

@@ -1,4 +1,4 @@
-use Rattle.std.proofs.Common.{◌≡◌, ◌+◌, ◌-◌, sym, ap, ◌∙◌, arith}
+use Rattle.std.proofs.Common.{◌+◌, ◌-◌, ap, ◌∙◌, arith}
 use Rattle.memtable.specs.Words.{words, byte_behind}
 use Rattle.memtable.specs.Arena.{key_length}
 use Rattle.store.proofs.GetLaws.{row_first, row_key, row_value}

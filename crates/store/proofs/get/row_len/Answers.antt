@@ -1,4 +1,4 @@
-use Rattle.std.proofs.Common.{sym, ◌∙◌, arith}
+use Rattle.std.proofs.Common.{arith}
 use Rattle.store.proofs.GetLaws.{length_row_at}
 use Rattle.store.proofs.get.row_len.Goals as goal
 

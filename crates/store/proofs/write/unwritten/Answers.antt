@@ -1,4 +1,4 @@
-use Rattle.std.proofs.Common.{Some, sym, ap, ◌∙◌}
+use Rattle.std.proofs.Common.{Some, sym, ap}
 use Rattle.store.specs.Control.{region}
 use Rattle.store.specs.Write.{unwritten}
 use Rattle.store.proofs.write.unwritten.Goals as goal

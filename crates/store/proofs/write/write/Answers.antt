@@ -25,4 +25,4 @@ pub returns-in_default-within_pages : goal.returns-in_default-within_pages
 returns-in_default-within_pages c = no_pages c.args.control c.args.memory.now (version c.args.key.now c.args.moment c.args.gone c.args.value.now) c.in-Some.key_len (sym c.key_size.ensures ∙ c.in-Some.is) c.in-Some-value_size.value_len (sym c.value_size.ensures ∙ c.in-Some-value_size.is) c.in-Some-proper_moment.moment (sym c.proper_moment.ensures ∙ c.in-Some-proper_moment.is) c.in-Some-not_earlier.moment (sym c.not_earlier.ensures ∙ c.in-Some-not_earlier.is) c.in-Some-unwritten.place (sym c.unwritten.ensures ∙ c.in-Some-unwritten.is) c.in-Some-roomy.table (sym c.roomy.ensures ∙ c.in-Some-roomy.is) (sym c.within_pages.ensures ∙ c.in_default-within_pages.is)
 
 pub returns : goal.returns
-returns c = goes_in c.args.control c.args.memory.now (version c.args.key.now c.args.moment c.args.gone c.args.value.now) c.in-Some.key_len (sym c.key_size.ensures ∙ c.in-Some.is) c.in-Some-value_size.value_len (sym c.value_size.ensures ∙ c.in-Some-value_size.is) c.in-Some-proper_moment.moment (sym c.proper_moment.ensures ∙ c.in-Some-proper_moment.is) c.in-Some-not_earlier.moment (sym c.not_earlier.ensures ∙ c.in-Some-not_earlier.is) c.in-Some-unwritten.place (sym c.unwritten.ensures ∙ c.in-Some-unwritten.is) c.in-Some-roomy.table (sym c.roomy.ensures ∙ c.in-Some-roomy.is) c.in-Some-within_pages.field_0 (sym c.within_pages.ensures ∙ c.in-Some-within_pages.is) _ c.put_version.ensures
+returns c = goes_in c.args.control c.args.memory.now (version c.args.key.now c.args.moment c.args.gone c.args.value.now) c.in-Some.key_len (sym c.key_size.ensures ∙ c.in-Some.is) c.in-Some-value_size.value_len (sym c.value_size.ensures ∙ c.in-Some-value_size.is) c.in-Some-proper_moment.moment (sym c.proper_moment.ensures ∙ c.in-Some-proper_moment.is) c.in-Some-not_earlier.moment (sym c.not_earlier.ensures ∙ c.in-Some-not_earlier.is) c.in-Some-unwritten.place (sym c.unwritten.ensures ∙ c.in-Some-unwritten.is) c.in-Some-roomy.table (sym c.roomy.ensures ∙ c.in-Some-roomy.is) c.in-Some-within_pages.field-0 (sym c.within_pages.ensures ∙ c.in-Some-within_pages.is) _ c.put_version.ensures

@@ -1,4 +1,4 @@
-use Rattle.std.proofs.Common.{◌≡◌, ℕ, ◌+◌, ◌%◌, min, ◌++◌, length, get_or, drop, sym, ap, ◌∙◌, arith}
+use Rattle.std.proofs.Common.{◌≡◌, ℕ, ◌+◌, ◌%◌, ◌++◌, get_or, drop, sym, ap, ◌∙◌, arith}
 use Rattle.table.specs.Cursor.{ringed}
 use Rattle.table.proofs.FillLaws.{fill_next, fill_end}
 use Rattle.table.proofs.RingLaws.{length_ringed, ringed_at, ringed_round}

@@ -1,4 +1,4 @@
-use Rattle.std.proofs.Common.{sym, ◌∙◌, arith, rules}
+use Rattle.std.proofs.Common.{sym, ◌∙◌, arith}
 use Rattle.table.specs.Stream.{payload}
 use Rattle.table.proofs.StreamLaws.{length_payload}
 use Rattle.table.proofs.FillLaws.{fill_next, payload_byte, filled_other, filled_page}

@@ -1,4 +1,4 @@
-use Rattle.std.proofs.Common.{arith, rules}
+use Rattle.std.proofs.Common.{rules}
 use Rattle.table.specs.Cursor.{list_with}
 use Rattle.table.proofs.cursor.Cursor.take_positions.Goals as goal
 

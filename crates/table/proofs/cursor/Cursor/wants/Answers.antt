@@ -1,4 +1,4 @@
-use Rattle.std.proofs.Common.{◌≡◌, ℕ, ◌+◌, ◌*◌, ◌%◌, ◌<◌, drop, ap, arith, Fits}
+use Rattle.std.proofs.Common.{ℕ, ◌+◌, ◌*◌, ◌%◌, drop, ap, arith}
 use Rattle.table.specs.declared.lookup.Entry.{Entry}
 use Rattle.table.proofs.RowLaws.{octets_small}
 use Rattle.table.proofs.cursor.Cursor.wants.Goals as goal
