@@ -126,14 +126,9 @@ def turn_antt(path, text, own, crates):
 def turn_rt(path, text, own):
     table = {n: spelled(n) for n in own if "-" in n}
     out = []
-    for m in re.finditer(r'"(?:[^"\\]|\\.)*"|//[^\n]*|(?:(?!//)[^"])+|.', text, re.S):
+    for m in re.finditer(r"""b?'(?:[^'\\\n]|\\.)'|"(?:[^"\\]|\\.)*"|//[^\n]*|[^"'/]+|.""", text, re.S):
         t = m.group(0)
-        if t.startswith('"'):
-            out.append(t)
-        elif t.startswith("//"):
-            out.append(t)
-        else:
-            out.append(turned(t, table, False))
+        out.append(t if t[0] in "\"'/" or t.startswith("b'") else turned(t, table, False))
     return "".join(out)
 
 

@@ -1,5 +1,5 @@
 -- The words behind a name, by how many there are.
-use Rattle.std.proofs.Common.{◌≡◌, ℕ, ◌<◌, ◌≤◌, ◌⊎◌, List, [], ◌∷◌, map, length, get_or, Ok, Err, sym, refl, ap, inl, inr, arith}
+use Rattle.std.proofs.Common.{◌≡◌, ◌<◌, ◌≤◌, ◌⊎◌, List, [], ◌∷◌, map, length, get_or, Ok, Err, refl, arith}
 use Rattle.shell.specs.declared.flaw.Flaw.TheVariants.{Form}
 use Rattle.shell.specs.declared.name.Name.{Name}
 use Rattle.shell.specs.declared.words.Word.{Word}

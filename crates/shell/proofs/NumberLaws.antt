@@ -1,5 +1,5 @@
 -- How the number that digits spell goes on from a digit, and how it ends.
-use Rattle.std.proofs.Common.{◌≡◌, ℕ, suc, ◌+◌, ◌<◌, ◌≤◌, List, [], ◌∷◌, length, get_or, drop, Some, None, sym, refl, ap, ◌∙◌, add-one, arith, drop_of_length-le, drop-cons}
+use Rattle.std.proofs.Common.{◌≡◌, ℕ, suc, ◌+◌, ◌<◌, ◌≤◌, List, [], ◌∷◌, length, get_or, drop, Some, None, refl, ◌∙◌, add-one, arith, drop_of_length-le, drop-cons}
 use Rattle.shell.specs.Commands.{longer, and_then, digits_from, number_of}
 
 -- of digits, the number is what they spell from 0 on

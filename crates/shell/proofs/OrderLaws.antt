@@ -1,5 +1,5 @@
 -- How what a line asks for follows from its words, one by one.
-use Rattle.std.proofs.Common.{◌≡◌, ℕ, suc, ◌+◌, ◌-◌, ◌<◌, ◌≤◌, true, false, cond, List, [], ◌∷◌, ◌++◌, map, length, get_or, take, drop, Some, None, Ok, Err, vec_items, codes, sym, refl, ap, ◌∙◌, add-one, arith, length-drop, drop_of_length-le, take_all, drop-cons}
+use Rattle.std.proofs.Common.{◌≡◌, ℕ, suc, ◌+◌, ◌-◌, ◌<◌, ◌≤◌, true, false, cond, List, [], ◌∷◌, ◌++◌, map, length, get_or, take, drop, Some, None, Ok, Err, vec_items, codes, refl, ◌∙◌, add-one, arith, length-drop, drop_of_length-le, take_all, drop-cons}
 use Rattle.shell.specs.declared.flaw.Flaw.{Flaw}
 use Rattle.shell.specs.declared.flaw.Flaw.TheVariants.{NoSuchCommand, Form}
 use Rattle.shell.specs.declared.name.Name.{Name}

@@ -1,11 +1,11 @@
 -- How the words of a line go on from a byte, and how they end.
-use Rattle.std.proofs.Common.{◌≡◌, ℕ, suc, ◌+◌, ◌<◌, ◌≤◌, List, [], ◌∷◌, ◌++◌, map, length, get_or, drop, Ok, Err, sym, refl, ap, ◌∙◌, add-one, drop_of_length-le, drop-cons}
+use Rattle.std.proofs.Common.{◌≡◌, ℕ, suc, ◌+◌, ◌<◌, ◌≤◌, List, [], ◌∷◌, ◌++◌, map, length, get_or, drop, Ok, Err, ◌∙◌, add-one, drop_of_length-le, drop-cons}
 use mathlib.Core.List.{map-append}
 use Rattle.shell.specs.declared.flaw.Flaw.{Flaw}
 use Rattle.shell.specs.declared.words.Word.{Word}
 use Rattle.shell.specs.declared.words.Place.{Place}
 use Rattle.shell.specs.declared.words.Deed.{Deed}
-use Rattle.shell.specs.Words.{Text, spelled, turn_at, end_at, stepped, ended, in_hand, so_far, words_from}
+use Rattle.shell.specs.Words.{Text, spelled, turn_at, end_at, stepped, in_hand, so_far, words_from}
 
 pub one_more : (ws : List Word) (w : Word) → map spelled (ws ++ w ∷ []) ≡ map spelled ws ++ spelled w ∷ []
 one_more ws w = map-append spelled ws (w ∷ [])

@@ -1,7 +1,7 @@
 -- What the words of a line ask for.
 --   longer       a number with one decimal digit more, if it stays below 2^64
 --   number_of    what a row of decimal digits spells
-use Rattle.std.specs.Prelude.{◌≡◌, ℕ, zero, suc, ◌+◌, ◌-◌, ◌*◌, Bool, true, false, cond, not, ◌&&◌, List, [], ◌∷◌, Some, None, Ok, Err, codes, Option, Result, nat_lt}
+use Rattle.std.specs.Prelude.{ℕ, ◌+◌, ◌-◌, ◌*◌, Bool, cond, not, ◌&&◌, List, [], ◌∷◌, Some, None, Ok, Err, codes, Option, Result, nat_lt}
 use Rattle.std.specs.Borrow.{Bor}
 use Rattle.store.specs.House as house
 use Rattle.std.specs.Str.{bytes_eq}

@@ -2,7 +2,7 @@
 --   kind_of, number_in, one_in, two_in   what a command is told by
 --   Steps        a step by number, moment and two rows
 --   Says, Tells  the step of a command, and of any event
-use Rattle.std.specs.Prelude.{ℕ, List, [], ◌∷◌, Some, None}
+use Rattle.std.specs.Prelude.{ℕ, List, [], Some, None}
 use Rattle.store.specs.declared.told.Told.{Told}
 use Rattle.store.specs.Entry.{StepSays, step_fits}
 use Rattle.shell.specs.declared.command.Command.{Command}

@@ -2,7 +2,7 @@
 --   parts_of     how much of each waiting page a stop leaves
 --   order_of     what the words of a line ask for
 --   Asks         an answer of the code is that, or that there was no memory
-use Rattle.std.specs.Prelude.{◌≡◌, ℕ, Bool, true, false, cond, ◌⊎◌, List, [], ◌∷◌, ◌++◌, Some, None, Ok, Err, vec_items, codes, Option, Result, ◌==◌}
+use Rattle.std.specs.Prelude.{◌≡◌, ℕ, cond, ◌⊎◌, List, [], ◌∷◌, ◌++◌, Some, None, Ok, Err, vec_items, codes, Option, Result, ◌==◌}
 use Rattle.store.specs.House as house
 use Rattle.shell.specs.declared.flaw.Flaw.{Flaw}
 use Rattle.shell.specs.declared.flaw.Flaw.TheVariants.{NoMemory, NoSuchCommand, NoActs, NoPart, Form}

@@ -5,9 +5,9 @@
 --   in_hand      the bytes of the word in hand, after a deed
 --   so_far       the words that have ended, after a deed
 --   words_of     the words of a line, each with whether it stood in quotes
-use Rattle.std.specs.Prelude.{◌≡◌, ℕ, ◌+◌, ◌-◌, ◌*◌, ◌%◌, Bool, true, false, cond, ◌&&◌, ◌||◌, ◌⊎◌, List, [], ◌∷◌, ◌++◌, map, Some, None, Ok, Err, vec_items, Option, Result, ◌==◌, nat_le}
+use Rattle.std.specs.Prelude.{ℕ, ◌+◌, ◌-◌, ◌*◌, ◌%◌, Bool, true, false, cond, ◌&&◌, ◌||◌, List, [], ◌∷◌, ◌++◌, Some, None, Ok, Err, vec_items, Option, Result, ◌==◌, nat_le}
 use Rattle.shell.specs.declared.flaw.Flaw.{Flaw}
-use Rattle.shell.specs.declared.flaw.Flaw.TheVariants.{NoMemory, NotClosed, NoEscape, NoHexDigit, NoBlank}
+use Rattle.shell.specs.declared.flaw.Flaw.TheVariants.{NotClosed, NoEscape, NoHexDigit, NoBlank}
 use Rattle.shell.specs.declared.words.Word.{Word}
 use Rattle.shell.specs.declared.words.Place.{Place}
 use Rattle.shell.specs.declared.words.Place.TheVariants.{Between, Plain, Quoted, Escape, HighDigit, LowDigit, Closed}

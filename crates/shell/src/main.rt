@@ -1,4 +1,6 @@
 // The store at a keyboard, over a file of pages: one command to a line.
+#![tactic(auto)]
+
 mod answer;
 mod command;
 mod device;
@@ -13,6 +15,7 @@ mod words;
 use std::fs::{File, OpenOptions};
 use std::io;
 use std::io::{BufRead, BufReader};
+use std::process::ExitCode;
 
 // Does what an order asks for, and says whether more is to come.
 fn follow(
@@ -64,7 +67,7 @@ fn without_newline(line: &[u8]) -> &[u8] {
 }
 
 fn talk(rt: &HostRuntime, session: &mut session::Session) -> Result<(), trouble::Trouble> {
-    let mut input = BufReader::new(rt.stdin());
+    let mut input = BufReader::new(rt.alloc(), rt.stdin())?;
     let mut line = Vec::new(rt.alloc());
     for _ in 0..u64::MAX {
         line.clear();
@@ -102,12 +105,14 @@ fn null(rt: &HostRuntime) -> io::Result<File> {
         .open(rt, "/dev/null")
 }
 
-fn main(rt: HostRuntime) -> Result<(), trouble::Trouble> {
+fn main(rt: HostRuntime) -> ExitCode {
     // Where standard input, output or error is closed, a file that is opened takes its place: let that be none with pages.
     let _places = (null(&rt), null(&rt), null(&rt));
-    let result = work(&rt);
-    if let Err(trouble) = &result {
-        let _ = eprintln!(rt; "shell: {trouble}");
+    match work(&rt) {
+        Ok(()) => ExitCode::SUCCESS,
+        Err(trouble) => {
+            let _ = eprintln!(rt; "shell: {trouble}");
+            ExitCode::FAILURE
+        }
     }
-    result
 }

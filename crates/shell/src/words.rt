@@ -102,7 +102,7 @@ fn in_quotes(b: u8) -> (Place, Deed)
 }
 
 fn between(b: u8) -> (Place, Deed)
-    ensures { result ≡ between-at b }
+    ensures { result ≡ between_at b }
 {
     if is_blank(b) {
         (Place::Between, Deed::Pass)

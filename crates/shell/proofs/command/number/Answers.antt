@@ -4,7 +4,7 @@ use Rattle.shell.proofs.command.number.Goals as goal
 
 pub returns-in_err-n : goal.returns-in_err-n
 returns-in_err-n c =
-    c.from-residual.ensures
+    c.from_residual.ensures
     ∙ sym (number_is _ (omega (arith, false-eqb _ 0 c.if-is_empty.ensures)) ∙ sym c.loop-b.invariant ∙ no_digit _ _ _ c.loop-b-test.true (sym c.with_digit.ensures ∙ c.in_err-n.was))
 
 pub loop-b-preserved : goal.loop-b-preserved

@@ -5,7 +5,7 @@ use Rattle.shell.proofs.order.parts.Goals as goal
 
 pub returns-in_err-part_left : goal.returns-in_err-part_left
 returns-in_err-part_left c =
-    let p = err_from_is_err_and c.from-residual.result c.from-residual.ensures.1 in
+    let p = err_from_is_err_and c.from_residual.result c.from_residual.ensures.1 in
     rw (p.1, p.2)
     (inr
     (sym c.loop-word.invariant

@@ -3,9 +3,9 @@ use Rattle.shell.specs.Words.{spelled}
 use Rattle.shell.proofs.WordsLaws.{one_more}
 use Rattle.shell.proofs.words.perform.Goals as goal
 
-pub returns-in_ok-push-2 : goal.returns-in_ok-push-2
-returns-in_ok-push-2 c =
+pub returns-in_ok-push-in-End : goal.returns-in_ok-push-in-End
+returns-in_ok-push-in-End c =
     record {
       hand = simp (c.in-End.is, c.replace-bytes.ensures.after, c.new.ensures.items);
-      words = ap (map spelled) c.in_ok-push-2.ensures.items ∙ one_more (vec_items c.args.words.now) _ ∙ simp (c.in-End.is, ap vec_items c.replace-bytes.ensures.value);
+      words = ap (map spelled) c.in_ok-push-in-End.ensures.items ∙ one_more (vec_items c.args.words.now) _ ∙ simp (c.in-End.is, ap vec_items c.replace-bytes.ensures.value);
     }

@@ -1,16 +1,16 @@
-use Rattle.std.proofs.Common.{sym, ◌∙◌, inl, inr, arith}
+use Rattle.std.proofs.Common.{sym, ◌∙◌, inl, inr}
 use Rattle.std.proofs.lemmas.Result.{err_from_is_err_and}
 use Rattle.shell.proofs.WordsLaws.{byte_flaw, byte_goes, end_flaw, end_goes}
 use Rattle.shell.proofs.words.split.Goals as goal
 
 pub returns-in_err-next : goal.returns-in_err-next
 returns-in_err-next c =
-    let p = err_from_is_err_and c.from-residual.result c.from-residual.ensures.1 in
+    let p = err_from_is_err_and c.from_residual.result c.from_residual.ensures.1 in
     rw (p.1, p.2) (inr (sym c.loop-b.invariant ∙ byte_flaw _ _ _ _ _ _ c.loop-b-test.true (sym c.turn.ensures ∙ c.in_err-next.was)))
 
 pub returns-in_err-perform : goal.returns-in_err-perform
 returns-in_err-perform c =
-    let p = err_from_is_err_and c.from-residual-in_err-perform.result c.from-residual-in_err-perform.ensures.1 in
+    let p = err_from_is_err_and c.from_residual-in_err-perform.result c.from_residual-in_err-perform.ensures.1 in
     rw p.1 (inl p.2)
 
 pub loop-b-preserved : goal.loop-b-preserved
@@ -22,12 +22,12 @@ loop-b-preserved c =
 
 pub returns-in_err-at_end : goal.returns-in_err-at_end
 returns-in_err-at_end c =
-    let p = err_from_is_err_and c.from-residual-in_err-at_end.result c.from-residual-in_err-at_end.ensures.1 in
+    let p = err_from_is_err_and c.from_residual-in_err-at_end.result c.from_residual-in_err-at_end.ensures.1 in
     rw (p.1, p.2) (inr (sym c.loop-b.invariant ∙ end_flaw _ _ _ _ _ _ c.loop-b-test.false (sym c.at_end.ensures ∙ c.in_err-at_end.was)))
 
 pub returns-in_err-perform-2 : goal.returns-in_err-perform-2
 returns-in_err-perform-2 c =
-    let p = err_from_is_err_and c.from-residual-in_err-perform-2.result c.from-residual-in_err-perform-2.ensures.1 in
+    let p = err_from_is_err_and c.from_residual-in_err-perform-2.result c.from_residual-in_err-perform-2.ensures.1 in
     rw p.1 (inl p.2)
 
 pub returns : goal.returns
