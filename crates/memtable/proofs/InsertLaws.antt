@@ -1,6 +1,6 @@
 -- An insertion: what was held is held, with the new version behind all that came.
 use Rattle.std.proofs.Common.{◌≡◌, ℕ, zero, suc, ◌+◌, ◌-◌, ◌<◌, ◌≤◌, Bool, true, ◌&&◌, ltb, leb, List, [], ◌∷◌, ◌++◌, length, take, drop, sym, refl, ap, ◌∙◌, subst, ap₂, inl, inr, arith}
-use Rattle.std.specs.List.{AllByRecursion as All}
+use Rattle.std.specs.List.{AllByRecursion}
 use Rattle.std.proofs.ByRecursion.{All-append, All-take, All-drop}
 use Rattle.std.proofs.lemmas.Bool.{cases_lt, lt-ltb, le-leb, lt-leb}
 use Rattle.std.proofs.lemmas.List.{append-nil, append_assoc, take_all, take_at, take-take, take-append-le, drop_at, drop-take, drop-append-le, length-append, length-take, length-drop, length_push}
@@ -39,7 +39,7 @@ each_drop f zero xs = refl
 each_drop f (suc n) [] = refl
 each_drop f (suc n) (x ∷ xs) = each_drop f n xs
 
-each_like : {A B : Type 0} (f g : A → B) (xs : List A) → All (λ x. f x ≡ g x) xs → each f xs ≡ each g xs
+each_like : {A B : Type 0} (f g : A → B) (xs : List A) → AllByRecursion (λ x. f x ≡ g x) xs → each f xs ≡ each g xs
 unfolding each
 each_like f g [] h = refl
 each_like f g (x ∷ xs) h = ap₂ ◌∷◌ h.0 (each_like f g xs h.1)
@@ -53,7 +53,7 @@ unfolding every
 every_one f x e = rw e refl
 
 -- what holds of each place and what is read there
-all_read : {A B : Type 0} (P Q : A → Type 0) (f : A → B) (g : B → Bool) (xs : List A) → ((x : A) → P x → g (f x) ≡ true → Q x) → All P xs → every g (each f xs) ≡ true → All Q xs
+all_read : {A B : Type 0} (P Q : A → Type 0) (f : A → B) (g : B → Bool) (xs : List A) → ((x : A) → P x → g (f x) ≡ true → Q x) → AllByRecursion P xs → every g (each f xs) ≡ true → AllByRecursion Q xs
 unfolding each every
 all_read P Q f g [] w a e = tt
 all_read P Q f g (x ∷ xs) w a e =
@@ -140,9 +140,9 @@ held_more index arena t vs v at h f r x e w =
     let alike : (p : ℕ) → Stands old p (version_at arena p) → fits (version_at arena p) ≡ true → version_at arena₁ p ≡ version_at arena p =
     λ p s g. version_read arena₁ u₁ p (version_at arena p) g (more p s g) in
     let fit : every fits (each (version_at arena) places) ≡ true = ap (every fits) h.sorted ∙ sort_every fits vs ∙ h.fit in
-    let same_all : All (λ p. version_at arena₁ p ≡ version_at arena p) places =
+    let same_all : AllByRecursion (λ p. version_at arena₁ p ≡ version_at arena p) places =
     all_read (λ p. Stands old p (version_at arena p)) (λ p. version_at arena₁ p ≡ version_at arena p) (version_at arena) fits places alike h.stand fit in
-    let stand_all : All (λ p. Stands (take u₁ arena₁) p (version_at arena₁ p)) places =
+    let stand_all : AllByRecursion (λ p. Stands (take u₁ arena₁) p (version_at arena₁ p)) places =
     all_read (λ p. Stands old p (version_at arena p)) (λ p. Stands (take u₁ arena₁) p (version_at arena₁ p)) (version_at arena) fits places
     (λ p s g. subst (Stands (take u₁ arena₁) p) (sym (alike p s g)) (more p s g)) h.stand fit in
     let there : Stands (take u₁ arena₁) u v = subst (λ ws. Stands ws u v) (sym front) (stands_last old v u long) in
@@ -162,7 +162,7 @@ held_more index arena t vs v at h f r x e w =
           ∙ ap (λ k. take k (sort vs) ++ (v ∷ drop k (sort vs))) e
           ∙ sym (insert_there v (sort vs) (sort_every (newer v) vs ∙ rising_newer vs v r))
           ∙ sym (push_right vs v);
-      stand = subst (All (λ p. Stands (take u₁ arena₁) p (version_at arena₁ p))) (sym moved_is)
+      stand = subst (AllByRecursion (λ p. Stands (take u₁ arena₁) p (version_at arena₁ p))) (sym moved_is)
           (All-append (λ p. Stands (take u₁ arena₁) p (version_at arena₁ p)) (take at places) (u ∷ drop at places)
           (All-take (λ p. Stands (take u₁ arena₁) p (version_at arena₁ p)) at places stand_all)
           (subst (Stands (take u₁ arena₁) u) (sym new) there, All-drop (λ p. Stands (take u₁ arena₁) p (version_at arena₁ p)) at places stand_all));

@@ -2,7 +2,7 @@
 -- `fits v`: a key of 1 to 255 bytes, a value of up to 1,024, a moment of 64 bits. `encode-all vs`: versions as words, one after another.
 -- `Stands ws p v`: the words from p on are the version v. `goes_before k s v`: v comes before the key k at s. `Holds index arena t vs`: the memtable t in these words is the list vs.
 use Rattle.std.specs.Prelude.{◌≡◌, ℕ, suc, ◌<◌, ◌≤◌, Bool, true, false, not, ◌&&◌, ltb, List, [], ◌∷◌, ◌++◌, length, take, drop, Some, None, Option, ◌==◌, nat_le, nat_lt, slice_index}
-use Rattle.std.specs.List.{AllByRecursion as All}
+use Rattle.std.specs.List.{AllByRecursion}
 use Rattle.value.specs.Versions.{or, every, any, those, each, same, before, Version, latest, weight}
 use Rattle.value.specs.Rising.{rising}
 use Rattle.value.specs.Order.{OrderSays}
@@ -35,7 +35,7 @@ pub record Holds (index arena : List ℕ) (t : Memtable) (vs : List Version) : T
   pub ended : t.used ≡ length (encode_all vs)
   pub filled : take t.used arena ≡ encode_all vs
   pub sorted : each (version_at arena) (take t.versions index) ≡ sort vs
-  pub stand : All (λ p. Stands (take t.used arena) p (version_at arena p)) (take t.versions index)
+  pub stand : AllByRecursion (λ p. Stands (take t.used arena) p (version_at arena p)) (take t.versions index)
   pub fit : every fits vs ≡ true
   pub light : weight vs ≤ 1048576
 
