@@ -11,7 +11,7 @@ import os
 import re
 import sys
 
-TOKEN = re.compile(r"[^\s(){}\[\];,.«»\"λ:=]+")
+TOKEN = re.compile(r"[^\s(){}\[\];,.«»\"`λ:=]+")
 DECLARED = re.compile(r"^\s*(?:(?:pub|abbrev|unfoldable|private)\s+)*(?:(?:data|record|ruleset)\s+)?([^\s(){}\[\];,.«»\"]+)(?=\s*(?::|\(|\{|\s[A-Za-z₀-₉ ]+:))")
 BOUND = re.compile(r"(?:\blet|λ)\s+([^\s(){}\[\];,.«»\"=:]+)\s*(?=[:=.])|\(([^\s(){}\[\];,.«»\"=:]+) :")
 ALIAS = re.compile(r" as ([^\s(){}\[\];,.«»\"]+)")

@@ -1,4 +1,6 @@
 // Measures the store's parts. `bench small` is what the gate runs: it prints only what is the same each time.
+#![tactic(auto)]
+
 mod fill;
 
 use fill::Filled;

@@ -1,7 +1,7 @@
 -- The arena: versions in the order in which they came. From a version's place on there stand its moment, its measures, the key's bytes and the value's bytes, packed.
 -- The measures are one word: the key's length, 256 times the value's length, and 2^20 if the key is gone.
--- `version-at arena p`: the version that stands at the place p, whatever the words are. `encoded v`: a version as words. `size k v`: how many words.
--- `order-at arena p k`: where the key at p stands to another, word by word, and by their lengths where all words are the same.
+-- `version_at arena p`: the version that stands at the place p, whatever the words are. `encoded v`: a version as words. `size k v`: how many words.
+-- `order_at arena p k`: where the key at p stands to another, word by word, and by their lengths where all words are the same.
 -- `appended`: the arena with one version more, from the first free word on; unchanged if the version's measures are not allowed or it finds no room.
 use Rattle.std.specs.Prelude.{ℕ, ◌+◌, ◌*◌, ◌/◌, ◌%◌, Bool, ◌&&◌, List, ◌∷◌, ◌++◌, length, ◌==◌, nat_le, nat_lt, slice_index}
 use Rattle.value.specs.Versions.{pick, Version, version}

@@ -1,5 +1,5 @@
 -- What the words hold: a list of versions, in the order in which they came. Definitions, and statements whose proofs are owed.
--- `fits v`: a key of 1 to 255 bytes, a value of up to 1,024, a moment of 64 bits. `encode-all vs`: versions as words, one after another.
+-- `fits v`: a key of 1 to 255 bytes, a value of up to 1,024, a moment of 64 bits. `encode_all vs`: versions as words, one after another.
 -- `Stands ws p v`: the words from p on are the version v. `goes_before k s v`: v comes before the key k at s. `Holds index arena t vs`: the memtable t in these words is the list vs.
 use Rattle.std.specs.Prelude.{◌≡◌, ℕ, suc, ◌<◌, ◌≤◌, Bool, true, false, not, ◌&&◌, ltb, List, [], ◌∷◌, ◌++◌, length, take, drop, Some, None, Option, ◌==◌, nat_le, nat_lt, slice_index}
 use Rattle.std.specs.List.{AllByRecursion}

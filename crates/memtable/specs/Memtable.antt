@@ -1,9 +1,9 @@
 -- The memtable on any words: its state is how many versions there are, how many words of the arena they take, and what they weigh.
 -- `accepts t i a k v`: has it room, in i words of index and a words of arena, for a version with a key of k bytes and a value of v? All that it holds weighs at most 2^20.
 -- `after_one`: its state then. `entries t index`: how many places of the index count.
--- `seek-place t index arena k s`: the first of them at or behind a key at a moment: not of a lower key, nor of this key with a moment of s or more.
+-- `seek_place t index arena k s`: the first of them at or behind a key at a moment: not of a lower key, nor of this key with a moment of s or more.
 -- `found`: the place of the newest version of a key below a moment. `written_at`: was the key written at this moment?
--- `index-after`, `arena-after`: what an insertion leaves.
+-- `index_after`, `arena_after`: what an insertion leaves.
 use Rattle.std.specs.Prelude.{ℕ, ◌+◌, ◌-◌, ◌<◌, ◌≤◌, Bool, true, false, ◌&&◌, List, length, Some, None, Option, ◌==◌, nat_le, nat_lt, slice_index}
 use Rattle.value.specs.Versions.{pick, Version}
 use Rattle.value.specs.Count.{smaller}

@@ -1,7 +1,7 @@
 -- Words of 64 bits, and bytes packed into them eight to a word, the highest first, the last word filled up by 0.
 -- `octet bs i`: byte i of a row, 0 past its end. `word bs k`: the eight bytes from k on as one word. `words n`: how many words n bytes take.
 -- `pack bs`: the bytes as words. `byte w k`: byte k of a word. `row ws p s n`: the n bytes that lie s words behind the place p.
--- `laid bs out`: a row of bytes with bs laid over its beginning, as far as there is room. `put-row ws at xs`: words with xs written over them from `at` on.
+-- `laid bs out`: a row of bytes with bs laid over its beginning, as far as there is room. `put_row ws at xs`: words with xs written over them from `at` on.
 use Rattle.std.specs.Prelude.{ℕ, ◌+◌, ◌-◌, ◌*◌, ◌/◌, ◌%◌, ◌^◌, Bool, List, ◌++◌, map, length, take, drop, nat_lt, slice_index}
 use Rattle.std.specs.List.{range_with_len}
 use Rattle.value.specs.Versions.{every}

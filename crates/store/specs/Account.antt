@@ -1,5 +1,5 @@
 -- From steps to whole runs: an account of a machine says by predicates what holds at rest, at power-on, between commands and within one; `Obligations` is what is owed
--- of it, a step at a time; `Steps-suffice` is the theorem that the main promise follows, for any engine and any set of known commands.
+-- of it, a step at a time; `StepsSuffice` is the theorem that the main promise follows, for any engine and any set of known commands.
 --   Next            what an act has to leave, with a number that falls
 --   Account         the four predicates
 --   Ends            how a command may end

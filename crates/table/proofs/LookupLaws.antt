@@ -18,7 +18,7 @@ use Rattle.table.specs.Search.{ahead_first, ahead_at, Between, middle, narrowed}
 use Rattle.table.specs.Reading.{head_limit, block_bound, head_key, found_in, Finds}
 use Rattle.table.specs.Lies.{block_begin, before_block}
 use Rattle.table.specs.Load.{placed}
-use Rattle.table.specs.Lookup.{an_entry, entry_in, probed, begun, entry_of, There, ReadsRight, Looking, Goes_on, with_page, entered, loaded, is_ahead, narrowed_by, found_by, all_came, LookupRight}
+use Rattle.table.specs.Lookup.{an_entry, entry_in, probed, begun, entry_of, There, ReadsRight, Looking, GoesOn, with_page, entered, loaded, is_ahead, narrowed_by, found_by, all_came, LookupRight}
 use Rattle.table.specs.declared.search.Search.{Search}
 use Rattle.table.specs.declared.lookup.Extent.{Extent}
 use Rattle.table.specs.declared.lookup.Entry.{Entry}
@@ -68,17 +68,17 @@ module _ (x : Extent) (ps : List Page) (vs : List Version) (k : List ℕ) (s : �
   looked_up : lookup (joined (blocks (sort vs))) k s ≡ lookup (sort vs) k s
   looked_up = ap (λ l. lookup l k s) (blocks_hold (sort vs)).0
 
-  pub probe_goes : (f : Search) (a : Entry) → Between k s (blocks (sort vs)) f.low f.high → ((m : ℕ) → f.low ≡ suc m → a ≡ entry_of vs m) → Goes_on x ps vs k s (probed x f a)
-  unfolding Goes_on ReadsRight payloads
+  pub probe_goes : (f : Search) (a : Entry) → Between k s (blocks (sort vs)) f.low f.high → ((m : ℕ) → f.low ≡ suc m → a ≡ entry_of vs m) → GoesOn x ps vs k s (probed x f a)
+  unfolding GoesOn ReadsRight payloads
   probe_goes f a b kept = ⊎_elim look (λ h. over h f.low refl) (cases_lt f.low f.high)
     where
-      look : f.low < f.high → Goes_on x ps vs k s (probed x f a)
+      look : f.low < f.high → GoesOn x ps vs k s (probed x f a)
       look h =
           let small : f.high < 4294967296 = omega (arith, b.within, t.lies.count, t.few) in
           let e : middle f.low f.high * 8 % 18446744073709551616 ≡ 8 * middle f.low f.high = omega arith in
           rw (lt-ltb f.low f.high h) (λ row. record { between = b; kept = kept; reads = (h, ap (λ at. spanned x.start at 8) e); came = refl })
 
-      over : f.high ≤ f.low → (n : ℕ) → f.low ≡ n → Goes_on x ps vs k s (probed x f a)
+      over : f.high ≤ f.low → (n : ℕ) → f.low ≡ n → GoesOn x ps vs k s (probed x f a)
       over h zero e =
           rw (le-ltb f.low f.high h, eq-eqb f.low 0 e)
           (sym looked_up ∙ (search_ends k s (blocks (sort vs)) f.high ordered (blocks_hold (sort vs)).1 sm
@@ -88,7 +88,7 @@ module _ (x : Extent) (ps : List Page) (vs : List Version) (k : List ℕ) (s : �
           rw (le-ltb f.low f.high h, ne_eqb f.low 0 (λ z. omega arith))
           (λ row. record { between = b; kept = kept; reads = (m, e, q, ap (λ y. spanned x.data_at y.begin y.len) (kept m e)); came = refl })
 
-  pub lookup_begins : Goes_on x ps vs k s (begun x)
+  pub lookup_begins : GoesOn x ps vs k s (begun x)
   lookup_begins =
       probe_goes (record { low = 0; high = x.blocks }) (an_entry 0 0)
       record { ordered = omega arith; within = omega (arith, t.lies.count); before = λ i h. absurd (omega arith); behind = λ i h g. absurd (omega (arith, t.lies.count)) }
@@ -178,7 +178,7 @@ module _ (x : Extent) (ps : List Page) (vs : List Version) (k : List ℕ) (s : �
         let (r, w) = head_reads (before_block (blocks (sort vs)) i) b.head b.tail 278 b.fits b.bound_small (omega arith) in
         (λ j. ahead k s (block_bound (came j)) (head_key (came j))) ∙ (λ j. ahead k s (r j) (w j)) ∙ sym (ap (ahead_first k s (before_block (blocks (sort vs)) i)) b.is)
 
-    pub lookup_narrows : l.stage ≡ Head → all_came l → Goes_on x ps vs k s (narrowed_by l x row k s)
+    pub lookup_narrows : l.stage ≡ Head → all_came l → GoesOn x ps vs k s (narrowed_by l x row k s)
     unfolding ReadsRight
     lookup_narrows g a =
         let (h, q, e) = subst (ReadsRight x vs l) g o.reads in
@@ -187,7 +187,7 @@ module _ (x : Extent) (ps : List Page) (vs : List Version) (k : List ℕ) (s : �
       where
         go : l.search.low < l.search.high → l.entry ≡ entry_of vs (middle l.search.low l.search.high) → (c : Bool) →
             Between k s (blocks (sort vs)) (narrowed l.search c).low (narrowed l.search c).high →
-            Goes_on x ps vs k s (pick c (probed x (narrowed l.search true) l.entry) (probed x (narrowed l.search false) l.ahead))
+            GoesOn x ps vs k s (pick c (probed x (narrowed l.search true) l.entry) (probed x (narrowed l.search false) l.ahead))
         go h q true b = probe_goes (narrowed l.search true) l.entry b (λ m e. let z : m ≡ middle l.search.low l.search.high = omega arith in q ∙ ap (entry_of vs) (sym z))
         go h q false b = probe_goes (narrowed l.search false) l.ahead b o.kept
 

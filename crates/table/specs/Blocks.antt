@@ -2,7 +2,7 @@
 --   bound_of p v     the bound of a block that begins with v, where p holds the version before it, if there is one
 --   ahead k s b h    does what a reading of k at s wants, if it is there, stand in the block with the bound b and the head's key h, or behind it?
 --   last_one p vs    the last version of p and then vs, as a list of at most one
---   behind-it p k s  no block of the rest is ahead, where p holds the version before the rest
+--   behind_it p k s  no block of the rest is ahead, where p holds the version before the rest
 use Rattle.std.specs.Prelude.{◌≡◌, ℕ, zero, ◌≤◌, Bool, true, false, ◌&&◌, List, [], ◌∷◌, ◌++◌, nat_le}
 use Rattle.value.specs.Versions.{pick, or, same, before, Version}
 use Rattle.value.specs.Sorted.{in_order, lookup}

@@ -90,9 +90,9 @@ pub record Looking (x : Extent) (ps : List Page) (vs : List Version) (k : List �
   pub came : take (504 * l.load.got) row ≡ payloads ps l.load.span.page l.load.got
 
 -- it goes on, whatever stands in the row; or there is nothing
-unfoldable pub Goes_on : Extent → List Page → List Version → List ℕ → ℕ → Option Lookup → Type 0
-Goes_on x ps vs k s None = lookup (sort vs) k s ≡ []
-Goes_on x ps vs k s (Some l) = (row : List ℕ) → Looking x ps vs k s l row
+unfoldable pub GoesOn : Extent → List Page → List Version → List ℕ → ℕ → Option Lookup → Type 0
+GoesOn x ps vs k s None = lookup (sort vs) k s ≡ []
+GoesOn x ps vs k s (Some l) = (row : List ℕ) → Looking x ps vs k s l row
 
 abbrev pub all_came : Lookup → Type 0
 all_came l = l.load.got ≡ l.load.span.pages
@@ -102,7 +102,7 @@ with_page l = record { stage = l.stage; search = l.search; entry = l.entry; ahea
 
 -- THE STATEMENTS. It begins; a page comes; an entry, a head, the block that decides was read.
 pub record LookupRight : Type 0 where
-  pub begins : (x : Extent) (ps : List Page) (vs : List Version) (k : List ℕ) (s : ℕ) → There x ps vs → s ≤ no_bound → Goes_on x ps vs k s (begun x)
+  pub begins : (x : Extent) (ps : List Page) (vs : List Version) (k : List ℕ) (s : ℕ) → There x ps vs → s ≤ no_bound → GoesOn x ps vs k s (begun x)
   pub takes :
       (x : Extent) (ps : List Page) (vs : List Version) (k : List ℕ) (s : ℕ) (l : Lookup) (row : List ℕ) → There x ps vs → s ≤ no_bound → Looking x ps vs k s l row → l.load.got < l.load.span.pages → 2016 ≤ length row →
       Looking x ps vs k s (with_page l) (placed l.load.got (page_at ps (l.load.span.page + l.load.got)) row)
@@ -111,7 +111,7 @@ pub record LookupRight : Type 0 where
       Looking x ps vs k s (entered l x row) row₁
   pub narrows :
       (x : Extent) (ps : List Page) (vs : List Version) (k : List ℕ) (s : ℕ) (l : Lookup) (row : List ℕ) → There x ps vs → s ≤ no_bound → Looking x ps vs k s l row → l.stage ≡ Head → all_came l →
-      Goes_on x ps vs k s (narrowed_by l x row k s)
+      GoesOn x ps vs k s (narrowed_by l x row k s)
   pub finds :
       (x : Extent) (ps : List Page) (vs : List Version) (k : List ℕ) (s : ℕ) (l : Lookup) (row : List ℕ) → There x ps vs → s ≤ no_bound → Looking x ps vs k s l row → l.stage ≡ Block → all_came l →
       Finds (loaded l row) (lookup (sort vs) k s) (found_by l row k s)

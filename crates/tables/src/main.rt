@@ -1,4 +1,6 @@
 // Writes whole tables onto pages in memory, reads them back, and prints a line a table, the same each time.
+#![tactic(auto)]
+
 mod builder;
 mod cases;
 mod reader;

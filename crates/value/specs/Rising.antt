@@ -1,4 +1,4 @@
--- Versions as they come about. `rising`: moments never fall, and no key has two versions at one moment. `last-moment`: the moment of the last write.
+-- Versions as they come about. `rising`: moments never fall, and no key has two versions at one moment. `last_moment`: the moment of the last write.
 use Rattle.std.specs.Prelude.{ℕ, Bool, true, not, ◌&&◌, List, [], ◌∷◌, ◌==◌, nat_le, nat_lt}
 use Rattle.value.specs.Versions.{pick, every, same, Version}
 

@@ -1,0 +1,3 @@
+pub mod Lines
+pub mod Reasons
+pub mod Rows

@@ -1,0 +1,8 @@
+// How the machine is told what was said to it and what came of its acts, and what is noted of a command.
+#![tactic(auto)]
+
+mod event;
+mod notes;
+
+pub use event::{Event, Reply, forget, tell};
+pub use notes::{Acts, counts, late_after, shows};

@@ -1,0 +1,135 @@
+-- A version is handed over: its bound, and the bytes that it brings.
+use Rattle.std.proofs.Common.{◌≡◌, ℕ, ◌+◌, ◌<◌, ◌≤◌, Bool, true, false, List, [], ◌++◌, length, take, drop, Some, None, Option, sym, refl, ap, ◌∙◌, append_assoc, arith, length-append, ne_eqb}
+use Rattle.std.proofs.lemmas.List.{take_at}
+use Rattle.value.specs.Versions.{pick, same, Version, version}
+use Rattle.value.specs.Numbers.{bytes_of}
+use Rattle.value.specs.Order.{OrderSays}
+use Rattle.value.specs.Encoding.{in_limits, encoding, encoded_length, has_room, written_length, written}
+use Rattle.value.specs.declared.key.Reply.TheVariants.{Before, Same, Behind}
+use Rattle.value.proofs.TestLaws.{clash}
+use Rattle.value.proofs.KeyLaws.{same_from, before_apart, before_apart'}
+use Rattle.value.proofs.NumberLaws.{length_bytes_of}
+use Rattle.value.proofs.OrderLaws.{before_said, same_said, behind_said}
+use Rattle.value.proofs.EncodingLaws.{limits_parts, room_true, room_limits, length_encoding}
+use Rattle.memtable.specs.Arena.{key_at, moment_at}
+use Rattle.table.specs.Blocks.{no_bound}
+use Rattle.table.specs.Writing.{begins, gave}
+use Rattle.table.specs.declared.writer.Writer.{Writer}
+use Rattle.flushing_store.specs.Control.{stage_region}
+use Rattle.flushing_store.specs.Stage.{staged}
+use Rattle.flushing_store.specs.Give.{bound_after, brought, brought_length, in_hand, given_writer, with_entry, given_memory}
+
+module _ (n : ℕ) (m key last : List ℕ) (h : n ≡ 0 → ⊥) (e : last ≡ key_at (stage_region m) 0) where
+  pub bound_same : (s : ℕ) → OrderSays last key Same → s ≡ moment_at (stage_region m) 0 → s ≡ bound_after n m key
+  bound_same s o f = rw (ne_eqb n 0 h, same_from (key_at (stage_region m) 0) key (sym e ∙ same_said last key o)) f
+
+  pub bound_before : OrderSays last key Before → no_bound ≡ bound_after n m key
+  bound_before o = rw (ne_eqb n 0 h, sym (ap (λ x. same x key) e) ∙ before_apart last key (before_said last key o)) refl
+
+  pub bound_behind : OrderSays last key Behind → no_bound ≡ bound_after n m key
+  bound_behind o = rw (ne_eqb n 0 h, sym (ap (λ x. same x key) e) ∙ before_apart' key last (behind_said last key o)) refl
+
+-- THE BYTES. In a row of 1,294 bytes there is room for each version within the limits.
+module _ (v : Version) (out : List ℕ) (h : 1294 ≤ length out) where
+  room_is : has_room v out ≡ in_limits v
+  room_is = go (in_limits v) refl
+    where
+      go : (b : Bool) → in_limits v ≡ b → has_room v out ≡ b
+      go true e = room_true v out e (let l = limits_parts (length v.key) v.moment v.gone (length v.value) e in omega arith)
+      go false e = room_limits v out e
+
+  length_is : written_length v out ≡ pick (in_limits v) (Some (encoded_length v)) None
+  length_is = ap (λ b. pick b (Some (encoded_length v)) None) room_is
+
+  bytes_are : in_limits v ≡ true → written v out ≡ encoding v ++ drop (encoded_length v) out
+  bytes_are e = ap (λ b. pick b (encoding v ++ drop (encoded_length v) out) out) (room_is ∙ e)
+
+  pub none_written : None ≡ written_length v out → in_limits v ≡ false
+  none_written e = go (in_limits v) (e ∙ length_is)
+    where
+      go : (b : Bool) → None ≡ pick b (Some (encoded_length v)) None → b ≡ false
+      go true f = let z : ◌≡◌ {A = ℕ} 0 1 = cc in absurd (omega arith)
+      go false f = refl
+
+  pub some_written : (n : ℕ) → Some n ≡ written_length v out → (in_limits v ≡ true) × (n ≡ encoded_length v)
+  some_written n e = go (in_limits v) (e ∙ length_is)
+    where
+      go : (b : Bool) → Some n ≡ pick b (Some (encoded_length v)) None → (b ≡ true) × (n ≡ encoded_length v)
+      go true f = (refl, cc)
+      go false f = let z : ◌≡◌ {A = ℕ} 0 1 = cc in absurd (omega arith)
+
+  pub short_written : (n : ℕ) → Some n ≡ written_length v out → n ≤ 1294
+  short_written n e = let (a, b) = some_written n e in let l = limits_parts (length v.key) v.moment v.gone (length v.value) a in omega arith
+
+  -- outside the limits
+  pub bring_none : (b : Bool) (s : ℕ) (r : Option ℕ) (row : List ℕ) → None ≡ written_length v out → r ≡ None →
+      (r ≡ brought_length b v) × (in_limits v ≡ true → take (length (brought b s v)) row ≡ brought b s v)
+  bring_none b s r row e f = let l = none_written e in (f ∙ sym (ap (λ x. pick x (Some (length (brought b 0 v))) None) l), λ t. clash (in_limits v) t l)
+
+  -- at the front
+  pub bring_plain : (b : Bool) (s : ℕ) (r : Option ℕ) (row : List ℕ) → b ≡ false → r ≡ written_length v out → row ≡ written v out →
+      (r ≡ brought_length b v) × (in_limits v ≡ true → take (length (brought b s v)) row ≡ brought b s v)
+  bring_plain b s r row e f g =
+      rw e (
+        f ∙ length_is ∙ ap (λ n. pick (in_limits v) (Some n) None) (sym (length_encoding v)),
+        λ t. ap (take (length (encoding v))) (g ∙ bytes_are t) ∙ take_at (encoding v) (drop (encoded_length v) out) (length (encoding v)) refl,
+      )
+
+  -- behind a bound
+  pub bring_bound : (b : Bool) (s n : ℕ) (cp post row rest : List ℕ) → b ≡ true → Some n ≡ written_length v out → cp ≡ bytes_of 8 s → row ≡ written v out →
+      (Some (n + 8) ≡ brought_length b v) × (in_limits v ≡ true → take (length (brought b s v)) (take 8 (cp ++ post) ++ (row ++ rest)) ≡ brought b s v)
+  bring_bound b s n cp post row rest e f g w =
+      let (t, k) = some_written n f in
+      let B = bytes_of 8 s in
+      let D = drop (encoded_length v) out in
+      let size : n + 8 ≡ length (bytes_of 8 0 ++ encoding v) = omega (arith, length-append (bytes_of 8 0) (encoding v), length_bytes_of 8 0, length_encoding v) in
+      let front : take 8 (cp ++ post) ≡ B = ap (λ x. take 8 (x ++ post)) g ∙ take_at B post 8 (length_bytes_of 8 s) in
+      let joined : B ++ ((encoding v ++ D) ++ rest) ≡ (B ++ encoding v) ++ (D ++ rest) = simp append_assoc in
+      rw e (
+        ap Some size ∙ sym (ap (λ x. pick x (Some (length (bytes_of 8 0 ++ encoding v))) None) t),
+        λ u. (λ i. take (length (B ++ encoding v)) (front i ++ ((w ∙ bytes_are u) i ++ rest))) ∙ ap (take (length (B ++ encoding v))) joined
+            ∙ take_at (B ++ encoding v) (D ++ rest) (length (B ++ encoding v)) refl,
+      )
+
+-- HANDED OVER, or not
+brought_none : (b : Bool) (v : Version) → None ≡ brought_length b v → in_limits v ≡ false
+brought_none b v e = go (in_limits v) e
+  where
+    go : (x : Bool) → None ≡ pick x (Some (length (brought b 0 v))) None → x ≡ false
+    go true f = let z : ◌≡◌ {A = ℕ} 0 1 = cc in absurd (omega arith)
+    go false f = refl
+
+brought_some : (b : Bool) (v : Version) (n : ℕ) → Some n ≡ brought_length b v → (in_limits v ≡ true) × (n ≡ length (brought b 0 v))
+brought_some b v n e = go (in_limits v) e
+  where
+    go : (x : Bool) → Some n ≡ pick x (Some (length (brought b 0 v))) None → (x ≡ true) × (n ≡ length (brought b 0 v))
+    go true f = (refl, cc)
+    go false f = let z : ◌≡◌ {A = ℕ} 0 1 = cc in absurd (omega arith)
+
+-- the bound does not change the length
+same_long : (b : Bool) (s : ℕ) (v : Version) → length (brought b 0 v) ≡ length (brought b s v)
+same_long true s v = omega (arith, length-append (bytes_of 8 0) (encoding v), length-append (bytes_of 8 s) (encoding v), length_bytes_of 8 0, length_bytes_of 8 s)
+same_long false s v = refl
+
+pub nothing_given : (b : Bool) (w : Writer) (v : Version) (m : List ℕ) → None ≡ brought_length b v → (None ≡ given_writer w v) × (m ≡ given_memory w v m)
+unfolding given_memory
+nothing_given b w v m e = rw (brought_none b v e) (refl, refl)
+
+pub given :
+    (w w₁ : Writer) (v : Version) (m : List ℕ) (b : Bool) (s n size : ℕ) (row bs m₁ m₂ m₃ : List ℕ) → Some n ≡ brought_length b v →
+    (length v.key < 256 → length v.value ≤ 1024 → size ≡ encoded_length v) → b ≡ begins w size → s ≡ bound_after w.block.count m v.key →
+    (in_limits v ≡ true → take (length (brought b s v)) row ≡ brought b s v) → bs ≡ take n row → m₁ ≡ in_hand bs m → m₂ ≡ with_entry b w m₁ →
+    m₃ ≡ staged (version v.key v.moment v.gone []) m₂ → w₁ ≡ gave w size → (Some w₁ ≡ given_writer w v) × (m₃ ≡ given_memory w v m)
+unfolding given_memory
+given w w₁ v m b s n size row bs m₁ m₂ m₃ e f g h i j k l o q =
+    let (t, len) = brought_some b v n e in
+    let lim = limits_parts (length v.key) v.moment v.gone (length v.value) t in
+    let z : size ≡ encoded_length v = f lim.short lim.small in
+    let bz : b ≡ begins w (encoded_length v) = g ∙ ap (begins w) z in
+    let bytes : bs ≡ brought b s v = j ∙ ap (λ x. take x row) (len ∙ same_long b s v) ∙ i t in
+    let hand : m₁ ≡ in_hand (brought (begins w (encoded_length v)) (bound_after w.block.count m v.key) v) m =
+    k ∙ ap (λ x. in_hand x m) bytes ∙ (λ x. in_hand (brought (bz x) (h x) v) m) in
+    rw t (
+      ap Some (q ∙ ap (gave w) z),
+      o ∙ ap (staged (version v.key v.moment v.gone [])) (l ∙ (λ x. with_entry (bz x) w (hand x))),
+    )

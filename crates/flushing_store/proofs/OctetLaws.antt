@@ -1,0 +1,42 @@
+-- Bytes are their own octets; and bytes put over the words at a place.
+use Rattle.std.proofs.Common.{◌≡◌, ℕ, zero, suc, ◌+◌, ◌-◌, ◌%◌, ◌<◌, ◌≤◌, min, List, ◌∷◌, ◌++◌, length, get_or, take, drop, sym, refl, ap, ◌∙◌, arith, w8, Fits, eq-eqb, le-leb}
+use borrow.Author.Tests.{lt-leb}
+use Rattle.std.proofs.lemmas.List.{drop-drop, drop-take}
+use Rattle.table.specs.Row.{octets}
+use Rattle.table.specs.Stream.{sealed, filled}
+use Rattle.table.proofs.RowLaws.{length_octets, octet_at}
+use Rattle.flushing_store.specs.Octets.{put_octets}
+
+pub octet_of : (bs : List ℕ) (n i x : ℕ) → ((k : ℕ) → Fits w8 (get_or bs k 0)) → i < n → x ≡ get_or bs i 0 → x ≡ get_or (octets n bs) i 0
+octet_of bs n i x f h e = let k = f i in let z : get_or bs i 0 % 256 ≡ get_or bs i 0 = omega arith in e ∙ sym (octet_at n bs i h ∙ z)
+
+pub put_far : (at : ℕ) (bs ws : List ℕ) → length ws < at + length bs → ws ≡ put_octets at bs ws
+unfolding put_octets
+put_far at bs ws h = rw (lt-leb (at + length bs) (length ws) h) refl
+
+pub put_near : (at k : ℕ) (bs ws xs : List ℕ) → at + length bs ≤ length ws → k ≡ length bs → xs ≡ octets (length bs) bs → take at ws ++ (xs ++ drop k (drop at ws)) ≡ put_octets at bs ws
+unfolding put_octets
+put_near at k bs ws xs h e f =
+    let l : k ≡ length (octets (length bs) bs) = e ∙ sym (length_octets (length bs) bs) in
+    rw (le-leb (at + length bs) (length ws) h) (λ i. take at ws ++ (f i ++ drop (l i) (drop at ws)))
+
+-- the first of them
+octets_front : (n k : ℕ) (ws : List ℕ) → n ≤ k → take n (octets k ws) ≡ octets n ws
+unfolding octets
+octets_front zero k ws h = refl
+octets_front (suc n) zero ws h = absurd (omega arith)
+octets_front (suc n) (suc k) ws h = ap (λ x. get_or ws 0 0 % 256 ∷ x) (octets_front n k (drop 1 ws) (omega arith))
+
+pub front_octets : (k n j : ℕ) (ws out bs : List ℕ) → out ≡ octets k ws → j ≡ min n k → bs ≡ take j out → bs ≡ octets (min n k) ws
+front_octets k n j ws out bs e f g = g ∙ ap (take j) e ∙ ap (λ i. take i (octets k ws)) f ∙ octets_front (min n k) k ws (omega arith)
+
+-- the words of a part from one on
+pub part_from : (a b n i j : ℕ) (m : List ℕ) → b ≡ a + n → i ≡ j → j ≤ n → take (b - (a + i)) (drop (a + i) m) ≡ drop j (take n (drop a m))
+part_from a b n i j m e f h =
+    let x : b - (a + i) ≡ n - j = omega arith in
+    let y : j + (n - j) ≡ n = omega arith in
+    (λ t. take (x t) (drop (a + f t) m)) ∙ ap (take (n - j)) (sym (drop-drop j a m)) ∙ sym (drop-take j (n - j) (drop a m)) ∙ ap (λ z. drop j (take z (drop a m))) y
+
+pub page_filled : (bs page : List ℕ) → length page ≡ 512 → filled bs page ≡ sealed bs
+unfolding filled
+page_filled bs page h = rw (eq-eqb (length page) 512 h) refl

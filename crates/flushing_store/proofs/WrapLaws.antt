@@ -1,0 +1,11 @@
+-- Words of 64 bits stay as they are when they are cut to 64 bits.
+use Rattle.std.proofs.Common.{◌≡◌, ℕ, suc, List, [], ◌∷◌, get_or, refl, arith, w64, Fits}
+use Rattle.flushing_store.specs.Control.{wrap, wraps}
+
+pub wraps_same : (ws : List ℕ) → ((i : ℕ) → Fits w64 (get_or ws i 0)) → ws ≡ wraps ws
+unfolding wraps
+wraps_same [] f = refl
+wraps_same (w ∷ ws) f =
+    let h = f 0 in
+    let e : w ≡ wrap w = omega arith in
+    (λ i. e i ∷ wraps_same ws (λ j. f (suc j)) i)

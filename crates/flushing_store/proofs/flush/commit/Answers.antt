@@ -1,0 +1,8 @@
+use Rattle.std.proofs.Common.{rules}
+use Rattle.flushing_store.specs.Acts.{ActTold}
+use Rattle.flushing_store.specs.Flush.{committed_step}
+use Rattle.flushing_store.proofs.flush.commit.Goals as goal
+
+pub returns : goal.returns
+unfolding committed_step ActTold
+returns c = search rules

@@ -1,0 +1,8 @@
+use Rattle.std.proofs.Common.{rules}
+use Rattle.flushing_store.specs.Acts.{ActTold}
+use Rattle.flushing_store.specs.Power.{powered}
+use Rattle.flushing_store.proofs.power.power.Goals as goal
+
+pub returns : goal.returns
+unfolding powered ActTold
+returns c = search rules

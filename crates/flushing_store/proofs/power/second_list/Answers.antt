@@ -1,0 +1,8 @@
+use Rattle.std.proofs.Common.{rules}
+use Rattle.flushing_store.specs.Acts.{ActTold}
+use Rattle.flushing_store.specs.Power.{second_listed}
+use Rattle.flushing_store.proofs.power.second_list.Goals as goal
+
+pub returns : goal.returns
+unfolding second_listed ActTold
+returns c = search rules

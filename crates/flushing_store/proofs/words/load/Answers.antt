@@ -1,0 +1,7 @@
+use Rattle.std.proofs.Common.{rules}
+use Rattle.flushing_store.specs.Control.{region, control_of}
+use Rattle.flushing_store.proofs.words.load.Goals as goal
+
+pub returns : goal.returns
+unfolding control_of region
+returns c = search rules

@@ -1,0 +1,106 @@
+// One step of the machine, as the world outside calls it: events by number, acts by an enum and a lent row.
+ghost use Rattle.std.specs.Prelude.{◌≡◌, ◌≤◌, length};
+ghost use Rattle.flushing_store.specs.Acts.{Does};
+ghost use Rattle.flushing_store.specs.Own.{went_on, paged, turned};
+ghost use Rattle.flushing_store.specs.Entry.{StepSays, step_fits, event_of};
+
+use crate::control::{Control, Phase};
+use crate::flush::{commit, flush, merge_on, merge_page, put_last, put_new_list};
+use crate::get::{get, get_on};
+use crate::octets::cut_into;
+use crate::power::{first_list, power, second_list};
+use crate::words::{load, turn_to};
+use crate::write::{write, write_on};
+use store::Told;
+
+// How many numbers the machine's memory has.
+pub const MEMORY: usize = 152520;
+
+// Are the rows of the lengths that a step takes?
+fn fits(memory: &[u64], kind: u64, one: &[u8], two: &[u8], out: &[u64]) -> bool
+    ensures { result ≡ step_fits memory.now kind one.now two.now out.now }
+{
+    memory.len() == MEMORY
+        && kind <= 12
+        && one.len() <= 4096
+        && two.len() <= 4096
+        && out.len() >= 1280
+}
+
+// Goes on with what is under way.
+fn go_on(memory: &mut [u64], control: Control, out: &mut [u64]) -> Told
+    requires { (length memory.old ≡ 152520) × (1280 ≤ length out.old) }
+    ensures { Does (went_on control memory.old control.base.phase) result out.old memory.new out.new }
+{
+    match control.base.phase {
+        Phase::Shown => {
+            turn_to(memory, control, Phase::Idle);
+            Told::Done
+        }
+        Phase::Merging => merge_on(memory, control, out),
+        Phase::Closed => put_last(memory, control, out),
+        Phase::Placed => {
+            turn_to(memory, control, Phase::Settled);
+            Told::Settle
+        }
+        Phase::Settled => put_new_list(memory, control, out),
+        Phase::Listed => {
+            turn_to(memory, control, Phase::Committed);
+            Told::Settle
+        }
+        Phase::Committed => commit(memory, control),
+        _ => Told::No(2),
+    }
+}
+
+// A page came that was asked for.
+fn take_page(memory: &mut [u64], control: Control, bytes: &[u8], out: &mut [u64]) -> Told
+    requires { (length memory.old ≡ 152520) × (1280 ≤ length out.old) }
+    ensures { Does (paged control memory.old bytes.now control.base.phase) result out.old memory.new out.new }
+{
+    let mut page = [0u8; 512];
+    cut_into(bytes, &mut page);
+    match control.base.phase {
+        Phase::FirstList => first_list(memory, control, &page),
+        Phase::AfterWhole => second_list(memory, control, true, &page),
+        Phase::AfterTorn => second_list(memory, control, false, &page),
+        Phase::Getting => get_on(memory, control, &page, out),
+        Phase::Writing => write_on(memory, control, &page),
+        Phase::Merging => merge_page(memory, control, &page, out),
+        _ => Told::No(2),
+    }
+}
+
+fn take_turn(
+    memory: &mut [u64],
+    control: Control,
+    kind: u64,
+    n: u64,
+    one: &[u8],
+    two: &[u8],
+    out: &mut [u64],
+) -> Told
+    requires { (length memory.old ≡ 152520) × ((1280 ≤ length out.old) × (kind ≤ 12)) }
+    ensures { Does (turned control memory.old (event_of kind n one.now two.now)) result out.old memory.new out.new }
+{
+    match kind {
+        0 => power(memory, control, n),
+        1 => write(memory, control, one, n, false, two),
+        2 => write(memory, control, one, n, true, &[]),
+        3 => get(memory, control, one, n, out),
+        9 => flush(memory, control, out),
+        11 => take_page(memory, control, two, out),
+        12 => go_on(memory, control, out),
+        _ => Told::No(2),
+    }
+}
+
+pub fn step(memory: &mut [u64], kind: u64, n: u64, one: &[u8], two: &[u8], out: &mut [u64]) -> Told
+    ensures { StepSays memory.old kind n one.now two.now out.old (step_fits memory.old kind one.now two.now out.old) result memory.new out.new }
+{
+    if !fits(memory, kind, one, two, out) {
+        return Told::No(0);
+    }
+    let control = load(memory);
+    take_turn(memory, control, kind, n, one, two, out)
+}

@@ -1,0 +1,97 @@
+// Getting: what is seen of a key at a moment, looked up in memory, and where that does not decide in the table; told as one row.
+ghost use Rattle.std.specs.Prelude.{◌≡◌, ◌<◌, ◌≤◌, ◌++◌, length};
+ghost use Rattle.flushing_store.specs.Acts.{Does, Quiet};
+ghost use Rattle.flushing_store.specs.Get.{sought, got, got_below, got_by, got_on};
+
+use crate::control::{Base, Control, Phase};
+use crate::look::{Looked, ask, extent_of, look_staged, take_page};
+use crate::shown::{write_place, write_row};
+use crate::stage::stage;
+use crate::words::turn_to;
+use memtable::{is_gone, moment_at};
+use store::Told;
+use table::{Lookup, begin, read_octets};
+
+// The place in the arena of the version that a reading wants.
+fn find(memory: &[u64], control: Control, key: &[u8], moment: u64) -> Option<u64>
+    requires { length memory.now ≡ 152520 }
+    ensures { result ≡ sought control memory.now key.now moment }
+{
+    control
+        .base
+        .table
+        .find(&memory[64..16448], &memory[16448..147520], key, moment)
+}
+
+// Memory does not decide: the table is looked through, unless no key there can be this one.
+fn get_below(memory: &mut [u64], control: Control, key: &[u8], moment: u64) -> Told
+    requires { length memory.old ≡ 152520 }
+    ensures { Quiet (got_below control memory.old key.now moment) result memory.new }
+{
+    if key.len() < 1 || key.len() > 255 {
+        return Told::Done;
+    }
+    let Some(lookup) = begin(extent_of(control.manifest)) else {
+        return Told::Done;
+    };
+    stage(memory, key, moment, false, &[]);
+    let base = Base {
+        phase: Phase::Getting,
+        ..control.base
+    };
+    ask(memory, Control { base, ..control }, lookup)
+}
+
+pub fn get(memory: &mut [u64], control: Control, key: &[u8], moment: u64, out: &mut [u64]) -> Told
+    requires { (length memory.old ≡ 152520) × (1280 ≤ length out.old) }
+    ensures { Does (got control memory.old key.now moment) result out.old memory.new out.new }
+{
+    let Some(place) = find(memory, control, key, moment) else {
+        return get_below(memory, control, key, moment);
+    };
+    if is_gone(&memory[16448..147520], place) {
+        return Told::Done;
+    }
+    let len = write_row(&memory[16448..147520], place, out);
+    turn_to(memory, control, Phase::Shown);
+    Told::Tells(len)
+}
+
+// All pages came that were wanted: the version is shown, or there is none, or more is wanted.
+fn end_get(memory: &mut [u64], control: Control, lookup: Lookup, out: &mut [u64]) -> Told
+    requires { (length memory.old ≡ 152520) × (1280 ≤ length out.old) }
+    ensures { Does (got_by control memory.old lookup) result out.old memory.new out.new }
+{
+    let mut row = [0u8; 2016];
+    read_octets(&memory[147682..149698], &mut row);
+    let moment = moment_at(&memory[147520..147682], 0);
+    let extent = extent_of(control.manifest);
+    match look_staged(memory, lookup, extent, &row, moment) {
+        Looked::On(next) => ask(memory, control, next),
+        Looked::Missing => {
+            turn_to(memory, control, Phase::Idle);
+            Told::Done
+        }
+        Looked::Found(place) => {
+            if place.gone {
+                turn_to(memory, control, Phase::Idle);
+                return Told::Done;
+            }
+            let len = write_place(lookup.loaded(&row), place, out);
+            turn_to(memory, control, Phase::Shown);
+            Told::Tells(len)
+        }
+    }
+}
+
+// A page came for a get.
+pub fn get_on(memory: &mut [u64], control: Control, page: &[u8], out: &mut [u64]) -> Told
+    requires { (length memory.old ≡ 152520) × (1280 ≤ length out.old) }
+    ensures { Does (got_on control memory.old page.now) result out.old memory.new out.new }
+{
+    let lookup = take_page(memory, control.lookup, page);
+    if lookup.load.got < lookup.load.span.pages {
+        return ask(memory, control, lookup);
+    }
+    end_get(memory, control, lookup, out)
+}

@@ -1,0 +1,116 @@
+// A version is handed over to the writer of a table: its bytes go to the hand, behind a bound where it begins a block, and the entry of the block that it ends
+// to the page of positions.
+ghost use Rattle.std.specs.Prelude.{◌≡◌, true, length, take};
+ghost use Rattle.value.specs.Versions.{version};
+ghost use Rattle.value.specs.Encoding.{in_limits};
+ghost use Rattle.table.specs.Layout.{entry};
+ghost use Rattle.flushing_store.specs.Give.{bound_after, brought, brought_length, ended_block, in_hand, given_writer, given_memory};
+
+use crate::octets::put_octets;
+use crate::stage::{read_key, stage};
+use memtable::moment_at;
+use table::{Open, Writer};
+use value::{Reply, encode, order, part_of};
+
+const NO_BOUND: u64 = 0xffff_ffff_ffff_ffff;
+
+// The bound of a block that begins with this key: the moment of the version that was handed over last, if it has the same key.
+fn bound_for(memory: &[u64], blocks: u64, key: &[u8]) -> u64
+    requires { length memory.now ≡ 152520 }
+    ensures { result ≡ bound_after blocks memory.now key.now }
+{
+    if blocks == 0 {
+        return NO_BOUND;
+    }
+    let stage = &memory[147520..147682];
+    let mut last = [0u8; 255];
+    let len = read_key(stage, 0, &mut last);
+    match order(part_of(&last, 0, len), key) {
+        Reply::Same => moment_at(stage, 0),
+        Reply::Before => NO_BOUND,
+        Reply::Behind => NO_BOUND,
+    }
+}
+
+// What a version brings, at the front of a row; and how many bytes that is. None where it is outside the limits.
+fn bring(
+    begins: bool,
+    bound: u64,
+    key: &[u8],
+    moment: u64,
+    gone: bool,
+    value: &[u8],
+    row: &mut [u8],
+) -> Option<usize>
+    requires { length row.old ≡ 1302 }
+    ensures len { result ≡ brought_length begins (version key.now moment gone value.now) }
+    ensures bytes { in_limits (version key.now moment gone value.now) ≡ true → take (length (brought begins bound (version key.now moment gone value.now))) row.new ≡ brought begins bound (version key.now moment gone value.now) }
+{
+    if begins {
+        row[0..8].copy_from_slice(&bound.to_le_bytes());
+        let size = encode(key, moment, gone, value, &mut row[8..1302])?;
+        return Some(size + 8);
+    }
+    encode(key, moment, gone, value, row)
+}
+
+// Where a block begins, and its length.
+fn entry_of(block: Open) -> [u8; 8]
+    ensures { result ≡ entry block.begin block.used }
+{
+    let b = block.begin.to_le_bytes();
+    let n = block.used.to_le_bytes();
+    [b[0], b[1], b[2], b[3], n[0], n[1], n[2], n[3]]
+}
+
+// The entry of the block being written, if there is one, goes to the page of positions.
+pub fn end_block(memory: &mut [u64], writer: Writer)
+    requires { length memory.old ≡ 152520 }
+    ensures { memory.new ≡ ended_block writer memory.old }
+{
+    if writer.block.count == 0 {
+        return;
+    }
+    put_octets(
+        &mut memory[152016..152520],
+        writer.positions.fill,
+        &entry_of(writer.block),
+    );
+}
+
+fn put_in_hand(memory: &mut [u64], bytes: &[u8])
+    requires { length memory.old ≡ 152520 }
+    ensures { memory.new ≡ in_hand bytes.now memory.old }
+{
+    put_octets(&mut memory[150202..151512], 0, bytes);
+}
+
+// Hands a version over; none where it is outside the limits, and nothing is changed.
+pub fn give(
+    memory: &mut [u64],
+    writer: Writer,
+    key: &[u8],
+    moment: u64,
+    gone: bool,
+    value: &[u8],
+) -> Option<Writer>
+    requires { length memory.old ≡ 152520 }
+    ensures writer { result ≡ given_writer writer (version key.now moment gone value.now) }
+    ensures memory { memory.new ≡ given_memory writer (version key.now moment gone value.now) memory.old }
+{
+    let size = 15u64
+        .saturating_add(key.len() as u64)
+        .saturating_add(value.len() as u64);
+    let begins = writer.begins(size);
+    let bound = bound_for(memory, writer.block.count, key);
+    let mut row = [0u8; 1302];
+    let Some(len) = bring(begins, bound, key, moment, gone, value, &mut row) else {
+        return None;
+    };
+    put_in_hand(memory, part_of(&row, 0, len));
+    if begins {
+        end_block(memory, writer);
+    }
+    stage(memory, key, moment, gone, &[]);
+    Some(writer.give(size))
+}

@@ -1,0 +1,105 @@
+// The heads of the two runs of a merge, what is in memory and the table: which comes first, and how it is handed over.
+ghost use Rattle.std.specs.Prelude.{◌≡◌, Bool, length};
+ghost use Rattle.flushing_store.specs.Round.{memory_head, leads, memory_turn, table_turn};
+
+use crate::control::{Control, Merging};
+use crate::give::give;
+use crate::stage::{read_key, read_value};
+use crate::turn::{Deed, Turn};
+use memtable::{is_gone, moment_at, place_at};
+use merge::{Next, choose};
+use value::{Place, key_of, part_of, value_of};
+
+// Where the next version in memory stands.
+pub fn memory_head(memory: &[u64], control: Control) -> Option<u64>
+    requires { length memory.now ≡ 152520 }
+    ensures { result ≡ memory_head control memory.now }
+{
+    if control.merging.walked < control.base.table.versions {
+        Some(place_at(&memory[64..16448], control.merging.walked))
+    } else {
+        None
+    }
+}
+
+// Does the version in memory come before the one in the block?
+pub fn memory_leads(memory: &[u64], at: u64, block: &[u8], place: Place) -> bool
+    requires { length memory.now ≡ 152520 }
+    ensures { result ≡ leads memory.now at block.now place }
+{
+    let mut key = [0u8; 255];
+    let len = read_key(&memory[16448..147520], at, &mut key);
+    match choose(Some(part_of(&key, 0, len)), Some(key_of(block, place))) {
+        Next::Later => true,
+        Next::Earlier => false,
+        Next::End => false,
+    }
+}
+
+// Hands over the version in memory.
+pub fn give_memory(memory: &mut [u64], control: Control, at: u64) -> Turn
+    requires { length memory.old ≡ 152520 }
+    ensures turn { result ≡ (memory_turn control memory.old at).turn }
+    ensures memory { memory.new ≡ (memory_turn control memory.old at).memory }
+{
+    let arena = &memory[16448..147520];
+    let mut key = [0u8; 255];
+    let key_len = read_key(arena, at, &mut key);
+    let mut value = [0u8; 1024];
+    let value_len = read_value(arena, at, &mut value);
+    let moment = moment_at(arena, at);
+    let gone = is_gone(arena, at);
+    let Some(writer) = give(
+        memory,
+        control.merging.writer,
+        part_of(&key, 0, key_len),
+        moment,
+        gone,
+        part_of(&value, 0, value_len),
+    ) else {
+        return Turn {
+            control,
+            deed: Deed::More,
+        };
+    };
+    let merging = Merging {
+        writer,
+        walked: control.merging.walked.wrapping_add(1),
+        ..control.merging
+    };
+    Turn {
+        control: Control { merging, ..control },
+        deed: Deed::More,
+    }
+}
+
+// Hands over the version in the block.
+pub fn give_table(memory: &mut [u64], control: Control, block: &[u8], place: Place) -> Turn
+    requires { length memory.old ≡ 152520 }
+    ensures turn { result ≡ (table_turn control memory.old block.now place).turn }
+    ensures memory { memory.new ≡ (table_turn control memory.old block.now place).memory }
+{
+    let entry = control.merging.cursor.entry(&memory[149698..150202]);
+    let Some(writer) = give(
+        memory,
+        control.merging.writer,
+        key_of(block, place),
+        place.moment,
+        place.gone,
+        value_of(block, place),
+    ) else {
+        return Turn {
+            control,
+            deed: Deed::More,
+        };
+    };
+    let merging = Merging {
+        writer,
+        cursor: control.merging.cursor.advance(entry, place),
+        ..control.merging
+    };
+    Turn {
+        control: Control { merging, ..control },
+        deed: Deed::More,
+    }
+}

@@ -1,0 +1,96 @@
+// Looking in the table for a command, a page at a time.
+ghost use Rattle.std.specs.Prelude.{◌≡◌, length};
+ghost use Rattle.memtable.specs.Arena.{key_at};
+ghost use Rattle.table.specs.Lookup.{with_page};
+ghost use Rattle.flushing_store.specs.Acts.{Quiet};
+ghost use Rattle.flushing_store.specs.Control.{stage_region};
+ghost use Rattle.flushing_store.specs.Look.{extent_of as extent-in, looked, page_in, asked};
+
+use crate::control::Control;
+use crate::stage::read_key;
+use crate::words::save;
+use manifest::Manifest;
+use store::Told;
+use table::{Extent, Load, Lookup, Stage, place_payload};
+use value::{Place, part_of};
+
+// What the pages that came for a lookup say.
+#[derive(Clone, Copy)]
+pub enum Looked {
+    // More has to be read.
+    On(Lookup),
+    // The version lies here in the block that was read.
+    Found(Place),
+    Missing,
+}
+
+// Where the table lies.
+pub fn extent_of(manifest: Manifest) -> Extent
+    ensures { result ≡ extent-in manifest }
+{
+    Extent {
+        start: manifest.table.start,
+        data_at: manifest.table.data_at,
+        blocks: manifest.table.blocks,
+    }
+}
+
+fn look(lookup: Lookup, extent: Extent, row: &[u8], key: &[u8], moment: u64) -> Looked
+    ensures { result ≡ looked lookup extent row.now key.now moment }
+{
+    match lookup.stage {
+        Stage::Entry => Looked::On(lookup.enter(extent, row)),
+        Stage::Head => match lookup.narrow(extent, row, key, moment) {
+            Some(next) => Looked::On(next),
+            None => Looked::Missing,
+        },
+        Stage::Block => match lookup.find(row, key, moment) {
+            Some(place) => Looked::Found(place),
+            None => Looked::Missing,
+        },
+    }
+}
+
+// The same for the key of the version that the command is about.
+pub fn look_staged(
+    memory: &[u64],
+    lookup: Lookup,
+    extent: Extent,
+    row: &[u8],
+    moment: u64,
+) -> Looked
+    requires { length memory.now ≡ 152520 }
+    ensures { result ≡ looked lookup extent row.now (key_at (stage_region memory.now) 0) moment }
+{
+    let mut key = [0u8; 255];
+    let len = read_key(&memory[147520..147682], 0, &mut key);
+    look(lookup, extent, row, part_of(&key, 0, len), moment)
+}
+
+// A page came: it goes to its place.
+pub fn take_page(memory: &mut [u64], lookup: Lookup, page: &[u8]) -> Lookup
+    requires { length memory.old ≡ 152520 }
+    ensures state { result ≡ with_page lookup }
+    ensures row { memory.new ≡ page_in lookup page.now memory.old }
+{
+    place_payload(lookup.load.got, page, &mut memory[147682..149698]);
+    Lookup {
+        load: Load {
+            span: lookup.load.span,
+            got: lookup.load.got.wrapping_add(1),
+        },
+        ..lookup
+    }
+}
+
+// Asks for the page that a lookup wants next.
+pub fn ask(memory: &mut [u64], control: Control, lookup: Lookup) -> Told
+    requires { length memory.old ≡ 152520 }
+    ensures { Quiet (asked control memory.old lookup) result memory.new }
+{
+    let Some(page) = lookup.load.wants() else {
+        return Told::No(2);
+    };
+    save(memory, Control { lookup, ..control });
+    Told::Read(page)
+}

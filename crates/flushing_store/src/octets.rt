@@ -1,0 +1,37 @@
+// Bytes in rows of words, a byte a word.
+ghost use Rattle.std.specs.Prelude.{◌≡◌, length};
+ghost use Rattle.table.specs.Row.{octets};
+ghost use Rattle.flushing_store.specs.Octets.{put_octets};
+
+use value::byte;
+
+// As many bytes as the row has; where there are no more, 0.
+pub fn cut_into(bytes: &[u8], row: &mut [u8])
+    ensures { row.new ≡ octets (length row.old) bytes.now }
+{
+    for i in 0..row.len() {
+        row[i] = byte(bytes, i);
+    }
+}
+
+fn widen_into(bytes: &[u8], row: &mut [u64])
+    ensures { row.new ≡ octets (length row.old) bytes.now }
+{
+    for i in 0..row.len() {
+        row[i] = u64::from(byte(bytes, i));
+    }
+}
+
+// Bytes over the words at a place; where they do not fit, nothing is changed.
+pub fn put_octets(row: &mut [u64], at: u64, bytes: &[u8])
+    ensures { row.new ≡ put_octets at bytes.now row.old }
+{
+    if bytes.len() > row.len() {
+        return;
+    }
+    if at > (row.len() - bytes.len()) as u64 {
+        return;
+    }
+    let from = at as usize;
+    widen_into(bytes, &mut row[from..from + bytes.len()]);
+}

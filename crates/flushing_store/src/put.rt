@@ -1,0 +1,42 @@
+// Pages that are put, in the lent row of numbers.
+ghost use Rattle.std.specs.Prelude.{◌≡◌, ◌≤◌, min, ◌++◌, length, drop};
+ghost use Rattle.table.specs.Row.{octets};
+ghost use Rattle.table.specs.Stream.{sealed};
+ghost use Rattle.manifest.specs.Manifest.{manifest_page};
+
+use manifest::Manifest;
+use table::{fill, read_octets};
+use value::{byte, part_of};
+
+// A page's bytes at the front of the row.
+fn tell_page(page: &[u8], out: &mut [u64])
+    requires { (length page.now ≡ 512) × (1280 ≤ length out.old) }
+    ensures { out.new ≡ page.now ++ drop 512 out.old }
+{
+    for i in 0..512usize {
+        out[i] = u64::from(page[i]);
+    }
+}
+
+// The page with the first n bytes of a row of words, at most 504, and its sum.
+pub fn put_page(row: &[u64], n: u64, out: &mut [u64])
+    requires { 1280 ≤ length out.old }
+    ensures { out.new ≡ sealed (octets (min n 504) row.now) ++ drop 512 out.old }
+{
+    let mut bytes = [0u8; 504];
+    read_octets(row, &mut bytes);
+    let len = n.min(504) as usize;
+    let mut page = [0u8; 512];
+    fill(part_of(&bytes, 0, len), &mut page);
+    tell_page(&page, out);
+}
+
+// The page of a list.
+pub fn put_list(list: Manifest, out: &mut [u64])
+    requires { 1280 ≤ length out.old }
+    ensures { out.new ≡ manifest_page list ++ drop 512 out.old }
+{
+    let mut page = [0u8; 512];
+    list.encode(&mut page);
+    tell_page(&page, out);
+}

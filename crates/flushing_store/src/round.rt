@@ -1,0 +1,200 @@
+// A merge of the table with what is in memory, a round at a time: a full page is put, bytes in hand go to the page, or the next version is handed over.
+ghost use Rattle.std.specs.Prelude.{◌≡◌, length};
+ghost use Rattle.flushing_store.specs.Round.{settled_turn, data_turn, positions_turn, took_bytes, took_turn, closed_turn, head_turn, block_turn, next_turn, round as round-of};
+
+use crate::control::{Base, Control, Merging, Phase};
+use crate::give::end_block;
+use crate::heads::{give_memory, give_table, memory_head, memory_leads};
+use crate::look::extent_of;
+use crate::octets::put_octets;
+use crate::target::{data_of, start_of};
+use crate::turn::{Deed, Turn};
+use table::{Due, Want, block_into, read_octets};
+use value::{Place, part_of};
+
+// So many pages wait at the most before all that wait are settled.
+const MOST_WAITING: u64 = 254;
+
+// Enough pages wait.
+fn settle(control: Control) -> Turn
+    ensures { result ≡ settled_turn control }
+{
+    let merging = Merging {
+        waiting: 0,
+        ..control.merging
+    };
+    Turn {
+        control: Control { merging, ..control },
+        deed: Deed::Settle,
+    }
+}
+
+// The page of data is put.
+fn put_data(control: Control) -> Turn
+    ensures { result ≡ data_turn control }
+{
+    let writer = control.merging.writer;
+    let merging = Merging {
+        writer: writer.put_data(),
+        waiting: control.merging.waiting.wrapping_add(1),
+        ..control.merging
+    };
+    let page = data_of(control).wrapping_add(writer.stream.put);
+    Turn {
+        control: Control { merging, ..control },
+        deed: Deed::Data(page, writer.stream.fill),
+    }
+}
+
+// The page of positions is put.
+pub fn put_positions(control: Control) -> Turn
+    ensures { result ≡ positions_turn control }
+{
+    let writer = control.merging.writer;
+    let merging = Merging {
+        writer: writer.put_positions(),
+        waiting: control.merging.waiting.wrapping_add(1),
+        ..control.merging
+    };
+    let page = start_of(control).wrapping_add(writer.positions.put);
+    Turn {
+        control: Control { merging, ..control },
+        deed: Deed::Positions(page, writer.positions.fill),
+    }
+}
+
+// Bytes in hand go to the page of data, at most 504.
+fn move_bytes(memory: &mut [u64], taken: u64, fill: u64, n: u64)
+    requires { length memory.old ≡ 152520 }
+    ensures { memory.new ≡ took_bytes taken fill n memory.old }
+{
+    let mut bytes = [0u8; 504];
+    let from = taken.min(1310) as usize;
+    read_octets(&memory[150202 + from..151512], &mut bytes);
+    let len = n.min(504) as usize;
+    put_octets(&mut memory[151512..152016], fill, part_of(&bytes, 0, len));
+}
+
+fn take_bytes(memory: &mut [u64], control: Control, n: u64) -> Turn
+    requires { length memory.old ≡ 152520 }
+    ensures turn { result ≡ took_turn control n }
+    ensures memory { memory.new ≡ took_bytes control.merging.writer.hand.taken control.merging.writer.stream.fill n memory.old }
+{
+    let writer = control.merging.writer;
+    move_bytes(memory, writer.hand.taken, writer.stream.fill, n);
+    let merging = Merging {
+        writer: writer.took(n),
+        ..control.merging
+    };
+    Turn {
+        control: Control { merging, ..control },
+        deed: Deed::More,
+    }
+}
+
+// All was handed over: the last block is closed, and the last page of data is put, or where that is empty the last page of positions.
+fn close(memory: &mut [u64], control: Control) -> Turn
+    requires { length memory.old ≡ 152520 }
+    ensures turn { result ≡ (closed_turn control memory.old).turn }
+    ensures memory { memory.new ≡ (closed_turn control memory.old).memory }
+{
+    let writer = control.merging.writer;
+    end_block(memory, writer);
+    let merging = Merging {
+        writer: writer.close(),
+        ..control.merging
+    };
+    if writer.stream.fill > 0 {
+        let base = Base {
+            phase: Phase::Closed,
+            ..control.base
+        };
+        return put_data(Control {
+            base,
+            merging,
+            ..control
+        });
+    }
+    let base = Base {
+        phase: Phase::Placed,
+        ..control.base
+    };
+    put_positions(Control {
+        base,
+        merging,
+        ..control
+    })
+}
+
+// The next version of the two runs is handed over; where nothing is left, the table is closed.
+fn hand_over(memory: &mut [u64], control: Control, block: &[u8], place: Option<Place>) -> Turn
+    requires { length memory.old ≡ 152520 }
+    ensures turn { result ≡ (head_turn control memory.old block.now place).turn }
+    ensures memory { memory.new ≡ (head_turn control memory.old block.now place).memory }
+{
+    match (memory_head(memory, control), place) {
+        (None, None) => close(memory, control),
+        (Some(at), None) => give_memory(memory, control, at),
+        (None, Some(place)) => give_table(memory, control, block, place),
+        (Some(at), Some(place)) => {
+            if memory_leads(memory, at, block, place) {
+                give_memory(memory, control, at)
+            } else {
+                give_table(memory, control, block, place)
+            }
+        }
+    }
+}
+
+// The head of the table's run, which is there.
+fn next_in_block(memory: &mut [u64], control: Control) -> Turn
+    requires { length memory.old ≡ 152520 }
+    ensures turn { result ≡ (block_turn control memory.old).turn }
+    ensures memory { memory.new ≡ (block_turn control memory.old).memory }
+{
+    let cursor = control.merging.cursor;
+    let entry = cursor.entry(&memory[149698..150202]);
+    let mut row = [0u8; 1512];
+    let len = block_into(entry, &memory[147682..149698], &mut row);
+    let block = part_of(&row, 0, len);
+    hand_over(memory, control, block, cursor.head(block))
+}
+
+// The next version is due: it is handed over, or the page that tells the head of the table's run is read.
+fn next_version(memory: &mut [u64], control: Control) -> Turn
+    requires { length memory.old ≡ 152520 }
+    ensures turn { result ≡ (next_turn control memory.old).turn }
+    ensures memory { memory.new ≡ (next_turn control memory.old).memory }
+{
+    let extent = extent_of(control.manifest);
+    let fetched = match control
+        .merging
+        .cursor
+        .wants(extent, &memory[149698..150202])
+    {
+        Want::Positions(page) => page,
+        Want::Data(page) => page,
+        Want::Head => return next_in_block(memory, control),
+        Want::End => return hand_over(memory, control, &[], None),
+    };
+    Turn {
+        control,
+        deed: Deed::Fetch(fetched),
+    }
+}
+
+pub fn round(memory: &mut [u64], control: Control) -> Turn
+    requires { length memory.old ≡ 152520 }
+    ensures turn { result ≡ (round-of control memory.old).turn }
+    ensures memory { memory.new ≡ (round-of control memory.old).memory }
+{
+    if control.merging.waiting >= MOST_WAITING {
+        return settle(control);
+    }
+    match control.merging.writer.due() {
+        Due::Data => put_data(control),
+        Due::Positions => put_positions(control),
+        Due::Take(n) => take_bytes(memory, control, n),
+        Due::Next => next_version(memory, control),
+    }
+}

@@ -1,0 +1,21 @@
+// What a turn of a merge leaves: the control state, and what it wants done.
+use crate::control::Control;
+
+#[derive(Clone, Copy)]
+pub enum Deed {
+    // Nothing: the next round follows at once.
+    More,
+    // Read this page.
+    Fetch(u64),
+    // Put the page of data, with so many bytes, to this page.
+    Data(u64, u64),
+    // The same with the page of positions.
+    Positions(u64, u64),
+    Settle,
+}
+
+#[derive(Clone, Copy)]
+pub struct Turn {
+    pub control: Control,
+    pub deed: Deed,
+}

@@ -1,0 +1,42 @@
+// What can be wrong with the words of a line, so that they are no command.
+ghost use Rattle.std.specs.Prelude.{◌≡◌};
+ghost use Rattle.names.specs.Flaws.{reason_of};
+ghost use Rattle.names.specs.declared.flaw.Flaw.TheVariants.{NoMemory};
+
+use crate::name::Name;
+use std::alloc::AllocFailed;
+
+#[derive(Clone, Copy)]
+pub enum Flaw {
+    NoMemory,
+    NoSuchCommand,
+    NoMoment,
+    NoActs,
+    NoPart,
+    // The words behind this name are too few or too many.
+    Form(Name),
+}
+
+impl Flaw {
+    // What is wrong, in words.
+    pub fn reason(self) -> &'static str
+        ensures { result.now ≡ reason_of self }
+    {
+        match self {
+            Flaw::NoMemory => "there is no memory for so long a line",
+            Flaw::NoSuchCommand => "there is no such command; help lists them",
+            Flaw::NoMoment => "a moment is a number from 0 to 18446744073709551615",
+            Flaw::NoActs => "a number of acts is from 0 to 18446744073709551615",
+            Flaw::NoPart => "what is left of a page is 0, 1 or 2",
+            Flaw::Form(called) => called.form(),
+        }
+    }
+}
+
+impl<T: Drop> From<AllocFailed<T>> for Flaw {
+    ghost from_gives = { λ _ r. r ≡ NoMemory };
+
+    fn from(_: AllocFailed<T>) -> Flaw {
+        Flaw::NoMemory
+    }
+}
