@@ -1,6 +1,4 @@
-use Rattle.std.proofs.Common.{◌+◌, ◌-◌, ap, ◌∙◌, arith}
-use Rattle.memtable.specs.Words.{words, byte_behind}
-use Rattle.memtable.specs.Arena.{key_length}
+use Rattle.std.proofs.Common.{◌∙◌, arith}
 use Rattle.flushing_store.proofs.ShownLaws.{row_first, row_key, row_value}
 use Rattle.flushing_store.proofs.shown.row_byte.Goals as goal
 
@@ -12,7 +10,4 @@ returns-then-i-len c =
     row_key c.args.arena.now c.args.place c.args.i _ c.requires c.if-i-eq0.false (omega (arith, c.key_len-len.ensures)) (c.from.ensures ∙ c.key_byte.ensures)
 
 pub returns : goal.returns
-returns c =
-    row_value c.args.arena.now c.args.place c.args.i _ c.requires c.if-i-eq0.false (omega (arith, c.key_len-len.ensures))
-    (c.from-2.ensures ∙ c.value_byte.ensures
-    ∙ ap (λ n. byte_behind c.args.arena.now c.args.place (2 + words (key_length c.args.arena.now c.args.place)) (c.args.i - 1 - n)) c.key_len-len.ensures)
+returns c = row_value c.args.arena.now c.args.place c.args.i _ c.requires c.if-i-eq0.false (omega (arith, c.key_len-len.ensures)) (cc)
