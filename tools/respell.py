@@ -124,7 +124,8 @@ def turn_antt(path, text, own, crates):
 
 
 def turn_rt(path, text, own):
-    table = {n: spelled(n) for n in own if "-" in n}
+    aliases = {m.group(1) for m in ALIAS.finditer(text) if is_name(m.group(1))}
+    table = {n: spelled(n) for n in own | aliases if "-" in n}
     out = []
     for m in re.finditer(r"""b?'(?:[^'\\\n]|\\.)'|"(?:[^"\\]|\\.)*"|//[^\n]*|[^"'/]+|.""", text, re.S):
         t = m.group(0)

@@ -4,7 +4,7 @@ ghost use Rattle.memtable.specs.Arena.{key_at};
 ghost use Rattle.table.specs.Lookup.{with_page};
 ghost use Rattle.flushing_store.specs.Acts.{Quiet};
 ghost use Rattle.flushing_store.specs.Control.{stage_region};
-ghost use Rattle.flushing_store.specs.Look.{extent_of as extent-in, looked, page_in, asked};
+ghost use Rattle.flushing_store.specs.Look.{extent_of as extent_in, looked, page_in, asked};
 
 use crate::control::Control;
 use crate::stage::read_key;
@@ -26,7 +26,7 @@ pub enum Looked {
 
 // Where the table lies.
 pub fn extent_of(manifest: Manifest) -> Extent
-    ensures { result ≡ extent-in manifest }
+    ensures { result ≡ extent_in manifest }
 {
     Extent {
         start: manifest.table.start,

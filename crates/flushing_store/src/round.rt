@@ -1,6 +1,6 @@
 // A merge of the table with what is in memory, a round at a time: a full page is put, bytes in hand go to the page, or the next version is handed over.
 ghost use Rattle.std.specs.Prelude.{◌≡◌, length};
-ghost use Rattle.flushing_store.specs.Round.{settled_turn, data_turn, positions_turn, took_bytes, took_turn, closed_turn, head_turn, block_turn, next_turn, round as round-of};
+ghost use Rattle.flushing_store.specs.Round.{settled_turn, data_turn, positions_turn, took_bytes, took_turn, closed_turn, head_turn, block_turn, next_turn, round as round_of};
 
 use crate::control::{Base, Control, Merging, Phase};
 use crate::give::end_block;
@@ -185,8 +185,8 @@ fn next_version(memory: &mut [u64], control: Control) -> Turn
 
 pub fn round(memory: &mut [u64], control: Control) -> Turn
     requires { length memory.old ≡ 152520 }
-    ensures turn { result ≡ (round-of control memory.old).turn }
-    ensures memory { memory.new ≡ (round-of control memory.old).memory }
+    ensures turn { result ≡ (round_of control memory.old).turn }
+    ensures memory { memory.new ≡ (round_of control memory.old).memory }
 {
     if control.merging.waiting >= MOST_WAITING {
         return settle(control);

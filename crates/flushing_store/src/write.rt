@@ -3,7 +3,7 @@ ghost use Rattle.std.specs.Prelude.{◌≡◌, length};
 ghost use Rattle.value.specs.Versions.{version};
 ghost use Rattle.flushing_store.specs.Acts.{Quiet};
 ghost use Rattle.flushing_store.specs.Stage.{staged_version};
-ghost use Rattle.flushing_store.specs.Write.{key_size, value_size, proper_moment, not_earlier, unwritten as Unwritten-at, roomy as roomy-for, within_pages, in_arena, in_index, put_in, sought_below, accepted, wrote, finished, wrote_by, wrote_on};
+ghost use Rattle.flushing_store.specs.Write.{key_size, value_size, proper_moment, not_earlier, unwritten as unwritten_at, roomy as roomy_for, within_pages, in_arena, in_index, put_in, sought_below, accepted, wrote, finished, wrote_by, wrote_on};
 
 use crate::control::{Base, Control, Phase};
 use crate::look::{Looked, ask, extent_of, look_staged, take_page};
@@ -57,7 +57,7 @@ fn not_earlier(last: u64, moment: u64) -> Option<u64>
 // Where a version goes in the index, if its key was not written at this moment, as far as memory knows.
 fn unwritten(table: Memtable, memory: &[u64], key: &[u8], moment: u64) -> Option<u64>
     requires { length memory.now ≡ 152520 }
-    ensures { result ≡ Unwritten-at table memory.now key.now moment }
+    ensures { result ≡ unwritten_at table memory.now key.now moment }
 {
     let index = &memory[64..16448];
     let arena = &memory[16448..147520];
@@ -69,7 +69,7 @@ fn unwritten(table: Memtable, memory: &[u64], key: &[u8], moment: u64) -> Option
 
 // The memtable with a version more, if what is not safe does not weigh too much then.
 fn roomy(table: Memtable, key: u64, value: u64) -> Option<Memtable>
-    ensures { result ≡ roomy-for table key value }
+    ensures { result ≡ roomy_for table key value }
 {
     if !table.accepts(16384, 131072, key, value) {
         return None;

@@ -1,7 +1,7 @@
 // Writing and erasing: the checks in their order, each of which hands on its value or leaves with its number; then the version goes into memory.
 ghost use Rattle.std.specs.Prelude.{◌≡◌, length};
 ghost use Rattle.value.specs.Versions.{version};
-ghost use Rattle.store.specs.Write.{key_size, value_size, proper_moment, not_earlier, unwritten as Unwritten-at, roomy as roomy-for, within_pages, in_arena, in_index, put_in, Wrote};
+ghost use Rattle.store.specs.Write.{key_size, value_size, proper_moment, not_earlier, unwritten as unwritten_at, roomy as roomy_for, within_pages, in_arena, in_index, put_in, Wrote};
 
 use crate::control::{Control, Phase, save};
 use crate::told::Told;
@@ -50,7 +50,7 @@ fn not_earlier(last: u64, moment: u64) -> Option<u64>
 // Where a version goes in the index, if its key was not written at this moment.
 fn unwritten(table: Memtable, memory: &[u64], key: &[u8], moment: u64) -> Option<u64>
     requires { length memory.now ≡ 147520 }
-    ensures { result ≡ Unwritten-at table memory.now key.now moment }
+    ensures { result ≡ unwritten_at table memory.now key.now moment }
 {
     let index = &memory[64..16448];
     let arena = &memory[16448..147520];
@@ -62,7 +62,7 @@ fn unwritten(table: Memtable, memory: &[u64], key: &[u8], moment: u64) -> Option
 
 // The memtable with a version more, if what is not safe does not weigh too much then.
 fn roomy(table: Memtable, key: u64, value: u64) -> Option<Memtable>
-    ensures { result ≡ roomy-for table key value }
+    ensures { result ≡ roomy_for table key value }
 {
     if !table.accepts(16384, 131072, key, value) {
         return None;

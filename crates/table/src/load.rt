@@ -1,7 +1,7 @@
 // Reading a span of a stream a page at a time: which page is wanted next, and where its payload goes.
 ghost use Rattle.std.specs.Prelude.{◌≡◌, length};
 ghost use Rattle.table.specs.Load.{wanted, placed, took};
-ghost use Rattle.table.specs.Stream.{payload as payload-of};
+ghost use Rattle.table.specs.Stream.{payload as payload_of};
 
 use crate::span::Span;
 use value::byte;
@@ -16,7 +16,7 @@ pub struct Load {
 // A page's payload over a row of 504 bytes.
 fn copy_payload(page: &[u8], row: &mut [u8])
     requires { length row.old ≡ 504 }
-    ensures { row.new ≡ payload-of page.now }
+    ensures { row.new ≡ payload_of page.now }
 {
     for i in 0..504usize {
         row[i] = byte(page, i);

@@ -2,7 +2,7 @@
 ghost use Rattle.std.specs.Prelude.{◌≡◌, ◌%◌, ◌<◌, length, drop, slice_index};
 ghost use Rattle.value.specs.Numbers.{number};
 ghost use Rattle.table.specs.Load.{placed};
-ghost use Rattle.table.specs.Stream.{payload as payload-of};
+ghost use Rattle.table.specs.Stream.{payload as payload_of};
 ghost use Rattle.table.specs.Row.{octets};
 
 use value::byte;
@@ -10,7 +10,7 @@ use value::byte;
 // A page's payload over 504 words.
 pub(crate) fn copy_payload(page: &[u8], row: &mut [u64])
     requires { length row.old ≡ 504 }
-    ensures { row.new ≡ payload-of page.now }
+    ensures { row.new ≡ payload_of page.now }
 {
     for i in 0..504usize {
         row[i] = byte(page, i) as u64;
