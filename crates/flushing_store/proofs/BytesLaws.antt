@@ -1,8 +1,8 @@
 -- A version that is staged is there; and bytes that are put over words are there, those before them too.
-use Rattle.std.proofs.Common.{◌≡◌, ℕ, zero, suc, ◌+◌, ◌%◌, ◌≤◌, Bool, true, false, leb, List, [], ◌∷◌, ◌++◌, length, get_or, take, drop, sym, refl, ap, ◌∙◌, arith, length-append, length-drop, take-append-drop, length-take, le-leb, leb-true}
+use Rattle.std.proofs.Common.{◌≡◌, ℕ, zero, suc, ◌+◌, ◌%◌, ◌≤◌, Bool, true, false, leb, List, [], ◌∷◌, ◌++◌, length, get_or, take, drop, sym, refl, ap, ◌∙◌, arith, length-append, length-drop, take-append-drop, length-take, le-leb, leb-true, lt-ltb}
 use Rattle.std.proofs.lemmas.List.{take_at, drop_at, take_all, drop-drop, length-take-le}
-use Rattle.value.specs.Versions.{pick, Version}
-use Rattle.value.specs.Numbers.{put_at}
+use Rattle.value.specs.Versions.{pick, every, Version}
+use Rattle.value.specs.Numbers.{put_at, all_bytes}
 use Rattle.memtable.specs.Words.{put_row}
 use Rattle.memtable.specs.Arena.{version_at, encoded, has_room, appended}
 use Rattle.memtable.specs.Holds.{fits, Stands}
@@ -24,6 +24,11 @@ stage_reads ws v l f =
     (ap (take n) (take_at (encoded v) (drop (0 + n) ws) n refl) ∙ take_all n (encoded v) (omega arith)))
 
 -- BYTES OVER WORDS
+pub octets_of_bytes : (n : ℕ) (ws : List ℕ) → all_bytes (octets n ws) ≡ true
+unfolding octets every
+octets_of_bytes zero ws = refl
+octets_of_bytes (suc n) ws = rw (lt-ltb (get_or ws 0 0 % 256) 256 (omega arith)) (octets_of_bytes n (drop 1 ws))
+
 pub octets_again : (n : ℕ) (ws : List ℕ) → octets n (octets n ws) ≡ octets n ws
 unfolding octets
 octets_again zero ws = refl

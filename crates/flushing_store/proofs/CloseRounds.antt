@@ -30,7 +30,8 @@ use Rattle.flushing_store.proofs.FlushAccount.{Job, new_stream, new_entries, sta
 use Rattle.flushing_store.proofs.WorkLaws.{entries_long}
 use Rattle.flushing_store.proofs.RoundAccount.{all_fit, start_is, data_is, start_small, half_room, At, Over, Rounded, closes_data, closes_positions}
 use Rattle.flushing_store.proofs.HandLaws.{ended_long, ended_below, ended_there}
-use Rattle.flushing_store.proofs.PageRounds.{octets_of_bytes, small_data, small_positions}
+use Rattle.flushing_store.proofs.PageRounds.{small_data, small_positions}
+use Rattle.flushing_store.proofs.BytesLaws.{octets_of_bytes}
 
 -- where there are versions there are blocks
 blocks_some : (vs : List Version) → 0 < length vs → 0 < length (blocks (sort vs))

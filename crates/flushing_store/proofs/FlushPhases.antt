@@ -38,8 +38,9 @@ use Rattle.flushing_store.proofs.WholeAccount.{account}
 use Rattle.flushing_store.proofs.FlushAccount.{Job, new_stream, new_entries, start_page, Working, Written, KeepsMemory, Merges, none_yet, acts_left, Ended, LastPage, Flushes, placed, settled}
 use Rattle.flushing_store.proofs.WorkLaws.{working_settled, working_put, written_settled, positions_fit, table_fits_half, positions_in_half, in_half_there, written_positions}
 use Rattle.flushing_store.proofs.RoundAccount.{all_fit, start_is, start_small, half_room, At}
-use Rattle.flushing_store.proofs.PageRounds.{keeps_within, staged_same, octets_of_bytes, small_positions}
+use Rattle.flushing_store.proofs.PageRounds.{keeps_within, staged_same, small_positions}
 use Rattle.flushing_store.proofs.FlushSteps.{saved_keeps, merge_step}
+use Rattle.flushing_store.proofs.BytesLaws.{octets_of_bytes}
 
 -- THE JOB of a flush, from what rests
 abbrev pub job_of : (n pages : ℕ) (h : House) (p : Phase) (w : World) (r : Rest n pages h p w) → 0 < length r.held.fresh → Job n pages h

@@ -8,7 +8,7 @@ use Rattle.table.specs.Row.{octets}
 use Rattle.table.specs.Lookup.{begun, with_page, loaded}
 use Rattle.table.specs.declared.lookup.Lookup.{Lookup}
 use Rattle.store.specs.House.{a_key}
-use Rattle.flushing_store.specs.Acts.{ActTold, Does, Quiet}
+use Rattle.flushing_store.specs.Acts.{Does, Quiet}
 use Rattle.flushing_store.specs.Control.{put_control, to_phase, arena_of, stage_region, ring_of}
 use Rattle.flushing_store.specs.Stage.{staged}
 use Rattle.flushing_store.specs.Look.{extent_of, looked, page_in, asked}
@@ -20,6 +20,7 @@ use Rattle.flushing_store.specs.declared.look.Looked.{Looked}
 use Rattle.flushing_store.specs.declared.look.Looked.TheVariants.{On, Found, Missing}
 use Rattle.flushing_store.specs.declared.control.Phase.TheVariants.{Idle, Shown, Getting}
 use Rattle.flushing_store.specs.declared.control.Control.{Control}
+use Rattle.store.specs.Acts.{ActTold}
 
 module _ (k : Control) (m key : List ℕ) (s : ℕ) where
   pub no_key : a_key key ≡ false → Quiet (got_below k m key s) Done m

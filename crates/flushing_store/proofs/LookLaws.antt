@@ -1,5 +1,5 @@
 -- A lookup in a table, step by step: its numbers stay small, what is left of it falls, and what it comes to is the latest version.
-use Rattle.std.proofs.Common.{◌≡◌, ℕ, zero, suc, ◌+◌, ◌-◌, ◌*◌, ◌%◌, ◌<◌, ◌≤◌, min, Bool, true, false, eqb, ltb, List, [], ◌∷◌, ◌++◌, get_or, take, drop, replicate, Some, None, Option, sym, refl, ap, ◌∙◌, subst, arith, ltb-false, ltb-true, lt-ltb}
+use Rattle.std.proofs.Common.{◌≡◌, ℕ, zero, suc, ◌+◌, ◌-◌, ◌*◌, ◌%◌, ◌<◌, ◌≤◌, min, Bool, true, false, eqb, ltb, List, [], ◌∷◌, drop, Some, None, Option, sym, refl, ap, ◌∙◌, subst, arith, ltb-false, ltb-true}
 use Rattle.value.specs.Versions.{pick, every, Version, latest}
 use Rattle.value.specs.Numbers.{number_at, is_byte, all_bytes}
 use Rattle.value.specs.Encoding.{in_limits, version_at}
@@ -23,37 +23,17 @@ use Rattle.table.specs.declared.lookup.Stage.{Stage}
 use Rattle.table.specs.declared.lookup.Stage.TheVariants.{Entry as EntryStage, Head, Block}
 use Rattle.table.specs.declared.lookup.Lookup.{Lookup}
 use Rattle.table.proofs.BlockAtLaws.{block_at}
-use Rattle.table.proofs.DamageLaws.{bytes_take}
 use Rattle.table.proofs.LookupLaws.{lookup_right}
 use Rattle.table.proofs.RowLaws.{octets_bytes}
-use Rattle.table.proofs.StreamLaws.{length_payloads}
+use Rattle.table.proofs.StreamLaws.{length_payloads, payload_bytes}
 use Rattle.flushing_store.specs.Look.{or_on, or_found, looked_at, looked}
 use Rattle.flushing_store.specs.declared.look.Looked.{Looked}
 use Rattle.flushing_store.specs.declared.look.Looked.TheVariants.{On, Found, Missing}
 use Rattle.flushing_store.proofs.RegionLaws.{SmallLookup}
 use Rattle.flushing_store.proofs.OwnAccount.{stage_left, lookup_left}
+use Rattle.flushing_store.proofs.BytesLaws.{take_octets}
 
 -- BYTES
-pub octets_all : (n : ℕ) (ws : List ℕ) → all_bytes (octets n ws) ≡ true
-unfolding octets every
-octets_all zero ws = refl
-octets_all (suc n) ws = rw (lt-ltb (get_or ws 0 0 % 256) 256 (omega arith)) (octets_all n (drop 1 ws))
-
-take_octets : (n m : ℕ) (ws : List ℕ) → n ≤ m → take n (octets m ws) ≡ octets n ws
-unfolding octets
-take_octets zero m ws h = refl
-take_octets (suc n) zero ws h = absurd (omega arith)
-take_octets (suc n) (suc m) ws h = ap (λ l. get_or ws 0 0 % 256 ∷ l) (take_octets n m (drop 1 ws) (omega arith))
-
-zeros_bytes : (n : ℕ) → all_bytes (replicate n 0) ≡ true
-unfolding every
-zeros_bytes zero = refl
-zeros_bytes (suc n) = zeros_bytes n
-
-payload_bytes : (p : List ℕ) → all_bytes p ≡ true → all_bytes (payload p) ≡ true
-unfolding payload
-payload_bytes p b = bytes_take 504 (p ++ replicate 504 0) (every_append is_byte p (replicate 504 0) b (zeros_bytes 504))
-
 payloads_bytes : (ps : List Page) (first n : ℕ) → OfBytes ps → all_bytes (payloads ps first n) ≡ true
 unfolding payloads every
 payloads_bytes ps first zero b = refl

@@ -1,5 +1,5 @@
 -- One step of a lookup, as get and write share it: the page that came goes to its place, and the next page is asked for, or all came that were wanted.
-use Rattle.std.proofs.Common.{◌≡◌, ℕ, zero, suc, ◌+◌, ◌*◌, ◌%◌, ◌<◌, ◌≤◌, Bool, true, false, ◌&&◌, ltb, leb, List, [], ◌∷◌, length, drop, sym, refl, ap, ◌∙◌, subst, ⊎_elim, arith, length-append, length-drop, length-take, ltb-false, ltb-true, lt-ltb}
+use Rattle.std.proofs.Common.{◌≡◌, ℕ, suc, ◌+◌, ◌*◌, ◌%◌, ◌<◌, ◌≤◌, Bool, true, false, ◌&&◌, ltb, leb, List, [], length, drop, sym, refl, ap, ◌∙◌, subst, ⊎_elim, arith, length-append, length-drop, length-take, ltb-false, ltb-true, lt-ltb}
 use Rattle.std.proofs.lemmas.List.{drop_at}
 use Rattle.std.proofs.lemmas.Bool.{cases_lt}
 use Rattle.value.specs.Versions.{pick, Version}
@@ -26,11 +26,12 @@ use Rattle.flushing_store.specs.Look.{extent_of, page_in, looked, asked}
 use Rattle.flushing_store.specs.declared.control.Phase.{Phase}
 use Rattle.flushing_store.specs.declared.control.Control.{Control}
 use Rattle.flushing_store.proofs.RegionLaws.{region_same, region_below, length_region, region_put, SmallBase, base_put, SmallLookup, lookup_put}
-use Rattle.flushing_store.proofs.StoredLaws.{Stored, AllPages, page_cut, of_bytes}
+use Rattle.flushing_store.proofs.StoredLaws.{Stored, AllPages, page_cut, of_bytes, page_none}
 use Rattle.flushing_store.proofs.HeldLaws.{Held, small_base, held_put, held_within}
 use Rattle.flushing_store.proofs.OwnAccount.{Rest, Looks, lookup_left}
 use Rattle.flushing_store.proofs.StepLaws.{read_quiet}
-use Rattle.flushing_store.proofs.LookLaws.{spans, pages_left, octets_all, looking_octets, LookRight, look_right}
+use Rattle.flushing_store.proofs.LookLaws.{spans, pages_left, looking_octets, LookRight, look_right}
+use Rattle.flushing_store.proofs.BytesLaws.{octets_of_bytes}
 
 -- control words do not see what lies behind them
 pub control_within : (a n : ℕ) (g : List ℕ → List ℕ) (m : List ℕ) → 48 ≤ a → a + n ≤ length m → control_of (within a n g m) ≡ control_of m
@@ -77,12 +78,6 @@ length_placed got p row l = go (ltb got 4 && leb 2016 (length row)) refl
         let g = ltb-true got 4 (and_left_of (ltb got 4) (leb 2016 (length row)) e) in
         let lp = length_payload p in
         simp (length-append, length-take, length-drop) (omega arith)
-
-page_none : (ps : List Page) (k : ℕ) → length ps ≤ k → page_at ps k ≡ []
-unfolding page_at
-page_none [] k h = refl
-page_none (q ∷ qs) zero h = absurd (omega arith)
-page_none (q ∷ qs) (suc k) h = page_none qs k (omega arith)
 
 payload_none : payload (octets 512 []) ≡ payload []
 unfolding payload octets
@@ -245,4 +240,4 @@ module _ (n pages : ℕ) (h : House) (q : Phase) (w : World) (key : List ℕ) (s
       let (a, b, c, d) = counts in
       look_right (extent_of r.list) w.device.pages h.safe key s r.stored.there sm l₁ row
       (looking_octets (extent_of r.list) w.device.pages h.safe key s l₁ (ring_of m₁) (of_bytes w.device.pages r.stored.all_pages) c takes_in)
-      (omega (arith, ltb-false l₁.load.got l.load.span.pages e)) small_more (octets_all 2016 (ring_of m₁))
+      (omega (arith, ltb-false l₁.load.got l.load.span.pages e)) small_more (octets_of_bytes 2016 (ring_of m₁))

@@ -1,8 +1,7 @@
 -- Rounds of a flush that put a page, settle, or move bytes from the hand to the page.
-use Rattle.std.proofs.Common.{◌≡◌, ℕ, zero, suc, ◌+◌, ◌-◌, ◌*◌, ◌%◌, ◌<◌, ◌≤◌, min, Bool, true, false, ltb, List, ◌++◌, length, get_or, take, drop, sym, refl, ap, ◌∙◌, subst, arith, length-append, lt-ltb}
+use Rattle.std.proofs.Common.{◌≡◌, ℕ, suc, ◌+◌, ◌-◌, ◌*◌, ◌<◌, ◌≤◌, min, Bool, true, false, ltb, List, ◌++◌, length, take, drop, sym, refl, ap, ◌∙◌, subst, arith, length-append, lt-ltb}
 use Rattle.std.proofs.lemmas.List.{length-drop}
-use Rattle.value.specs.Versions.{pick, every, Version}
-use Rattle.value.specs.Numbers.{all_bytes}
+use Rattle.value.specs.Versions.{pick, Version}
 use Rattle.value.specs.Sorted.{sort, merge}
 use Rattle.memtable.specs.Arena.{key_at, moment_at}
 use Rattle.memtable.specs.Holds.{Holds}
@@ -23,14 +22,9 @@ use Rattle.flushing_store.specs.declared.control.Phase.{Phase}
 use Rattle.flushing_store.specs.declared.control.Phase.TheVariants.{Merging as MergingPhase}
 use Rattle.flushing_store.specs.declared.control.Control.{Control}
 use Rattle.flushing_store.proofs.RegionLaws.{length_within, region_same, region_above, region_below, length_region, SmallWriter}
-use Rattle.flushing_store.proofs.BytesLaws.{take_octets, drop_octets, octets_again, octets_put, put_octets_long}
+use Rattle.flushing_store.proofs.BytesLaws.{take_octets, drop_octets, octets_again, octets_put, put_octets_long, octets_of_bytes}
 use Rattle.flushing_store.proofs.FlushAccount.{Job, new_stream, new_entries, start_page, data_page, KeepsMemory, Staged, none_yet, last_given}
 use Rattle.flushing_store.proofs.RoundAccount.{start_is, data_is, start_small, half_room, At, rounds_left, Rounded, more, settles, puts_data, puts_positions}
-
-pub octets_of_bytes : (n : ℕ) (ws : List ℕ) → all_bytes (octets n ws) ≡ true
-unfolding octets every
-octets_of_bytes zero ws = refl
-octets_of_bytes (suc n) ws = rw (lt-ltb (get_or ws 0 0 % 256) 256 (omega arith)) (octets_of_bytes n (drop 1 ws))
 
 -- what comes first is within
 pub front_fits : (a : ℕ) (W page rest : List ℕ) → drop a W ≡ page ++ rest → a ≤ length W → a + length page ≤ length W

@@ -5,11 +5,12 @@ use Rattle.value.specs.Versions.{Version, version}
 use Rattle.memtable.specs.Words.{put_row}
 use Rattle.memtable.specs.Arena.{key_at, value_at, moment_at, version_at, encoded, appended}
 use Rattle.memtable.specs.Holds.{fits, Stands}
-use Rattle.memtable.proofs.ReadLaws.{fits_parts, length_encoded, version_read}
+use Rattle.memtable.proofs.ReadLaws.{fits_parts, length_encoded}
 use Rattle.memtable.proofs.SteadyLaws.{append_keeps}
 use Rattle.flushing_store.specs.Control.{memory_words, stage_region}
 use Rattle.flushing_store.specs.Stage.{staged, version_of}
 use Rattle.flushing_store.proofs.RegionLaws.{length_region, region_same}
+use Rattle.flushing_store.proofs.BytesLaws.{stage_reads}
 
 stands : (ws : List ℕ) (v : Version) → length ws ≡ 162 → fits v ≡ true → Stands (take (length (encoded v)) (appended ws 0 v)) 0 v
 unfolding Stands appended put_row
@@ -20,9 +21,6 @@ stands ws v l f =
     rw (le-leb 1 (length v.key) p.one, le-leb (length v.key) 255 p.key_long, le-leb (length v.value) 1024 p.value_long, room)
     (ap (take (length (encoded v))) (take_at (encoded v) (drop (0 + length (encoded v)) ws) (length (encoded v)) refl) ∙ take_all (length (encoded v)) (encoded v) (omega arith))
 
-version_there : (ws : List ℕ) (v : Version) → length ws ≡ 162 → fits v ≡ true → version_at (appended ws 0 v) 0 ≡ v
-version_there ws v l f = version_read (appended ws 0 v) (length (encoded v)) 0 v f (stands ws v l f)
-
 -- what stands there
 pub record Staged (v : Version) (ws : List ℕ) : Type 0 where
   pub key : key_at ws 0 ≡ v.key
@@ -32,7 +30,7 @@ pub record Staged (v : Version) (ws : List ℕ) : Type 0 where
 staged_there : (ws : List ℕ) (v : Version) → length ws ≡ 162 → fits v ≡ true → Staged v (appended ws 0 v)
 unfolding version_at version_of
 staged_there ws v l f =
-    let e = version_there ws v l f in
+    let e = stage_reads ws v l f in
     let a = appended ws 0 v in
     let short : take 1024 (value_at (appended ws 0 v) 0) ≡ v.value = ap (λ x. take 1024 x.value) e ∙ take_all 1024 v.value (fits_parts v f).value_long in
     record {

@@ -1,7 +1,6 @@
 -- Memory stays as long as it is, and its numbers small, whatever it holds and whatever is said.
 use Rattle.std.proofs.Common.{◌≡◌, ℕ, zero, suc, ◌+◌, ◌*◌, ◌%◌, ◌<◌, ◌≤◌, Bool, true, false, ◌&&◌, eqb, ltb, leb, List, [], ◌++◌, length, get_or, drop, replicate, Some, None, Option, sym, refl, ◌∙◌, arith, eqb-true}
 use Rattle.std.proofs.lemmas.Bool.{leb-true, ltb-true}
-use Rattle.std.proofs.lemmas.List.{length-replicate}
 use Rattle.value.specs.Versions.{pick, every, Version, version}
 use Rattle.value.specs.Numbers.{put_at}
 use Rattle.value.specs.Encoding.{in_limits, encoded_length, key_at, value_at}
@@ -49,7 +48,9 @@ use Rattle.flushing_store.specs.declared.control.Phase.TheVariants.{Idle, Shown,
 use Rattle.flushing_store.specs.declared.control.Control.{Control}
 use Rattle.flushing_store.specs.declared.turn.Deed.{Deed}
 use Rattle.flushing_store.specs.declared.turn.Deed.TheVariants.{More, Fetch, Data, Positions, Settle}
-use Rattle.flushing_store.proofs.WithinLaws.{length_part, length_within, length_wraps, length_put_at, small_take, small_append, small_getD, small_cons, small_zeros, small_wraps, small_put_at, small_region, small_within}
+use Rattle.flushing_store.proofs.WithinLaws.{length_wraps, length_put_at, small_take, small_append, small_getD, small_cons, small_zeros, small_wraps, small_put_at, small_region, small_within}
+use Rattle.flushing_store.proofs.RegionLaws.{length_within, length_region}
+use Rattle.flushing_store.proofs.StepLaws.{start_long}
 
 -- PARTS of memory: what is put keeps a part's length, and its numbers small
 as_small : (m : List ℕ) → all_small m ≡ true → small m ≡ true
@@ -133,7 +134,7 @@ module _ (m₀ : List ℕ) where
 
   part_kept : (a n : ℕ) (f : List ℕ → List ℕ) (m : List ℕ) → a + n ≤ memory_words → Kept m₀ m → Part (region a n m) (f (region a n m)) → Kept m₀ (within a n f m)
   part_kept a n f m h k p =
-      within_kept a n f m h k (p.long ∙ length_part a n m (omega (arith, k.long))) (λ z. p.kept (small_region a n m (k.kept z)))
+      within_kept a n f m h k (p.long ∙ length_region a n m (omega (arith, k.long))) (λ z. p.kept (small_region a n m (k.kept z)))
 
   wraps_kept : (a n : ℕ) (ws m : List ℕ) → a + n ≤ memory_words → length ws ≡ n → Kept m₀ m → Kept m₀ (within a n (λ x. wraps ws) m)
   wraps_kept a n ws m h l k = within_kept a n (λ x. wraps ws) m h k (length_wraps ws ∙ l) (λ z. small_wraps ws)
@@ -175,7 +176,7 @@ module _ (m₀ : List ℕ) where
         let m₁ = in_arena k.base.table.used v m in
         let e = enter_keeps (region 64 16384 m₁) k.base.table.versions place k.base.table.used in
         let i : Kept m₀ (in_index k.base.table place m₁) =
-        within_kept 64 16384 (λ x. entered x k.base.table.versions place k.base.table.used) m₁ (omega arith) a (e.0 ∙ length_part 64 16384 m₁ (omega (arith, a.long)))
+        within_kept 64 16384 (λ x. entered x k.base.table.versions place k.base.table.used) m₁ (omega arith) a (e.0 ∙ length_region 64 16384 m₁ (omega (arith, a.long)))
         (λ z. from_small _ (e.1 (u z) (as_small (region 64 16384 m₁) (small_region 64 16384 m₁ (a.kept z))))) in
         put_kept _ _ i
 
@@ -429,10 +430,6 @@ every_same : (f : ℕ → Bool) (n x : ℕ) → f x ≡ true → every f (replic
 unfolding every
 every_same f zero x h = refl
 every_same f (suc n) x h = rw h (every_same f n x h)
-
-pub start_long : length own.start ≡ memory_words
-unfolding own blank_memory
-start_long = length-replicate {A = ℕ} memory_words 0
 
 start_zero : every (λ m. eqb m 0) own.start ≡ true
 unfolding own blank_memory

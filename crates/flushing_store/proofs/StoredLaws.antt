@@ -102,7 +102,7 @@ page_bytes p h = and_right_of (eqb (length p) 512) (all_bytes p) h
 pub page_cut : (p : Page) → a_page p ≡ true → octets 512 p ≡ p
 page_cut p h = octets_bytes 512 p p (take_all 512 p (omega (arith, page_long p h))) (page_long p h) (page_bytes p h)
 
-page_none : (ps : List Page) (k : ℕ) → length ps ≤ k → page_at ps k ≡ []
+pub page_none : (ps : List Page) (k : ℕ) → length ps ≤ k → page_at ps k ≡ []
 unfolding page_at
 page_none [] k h = refl
 page_none (q ∷ qs) zero h = absurd (omega arith)

@@ -11,14 +11,6 @@ unfolding within region
 within_is a n f m x e = ap (λ z. take a m ++ (z ++ drop n (drop a m))) e
 
 -- LENGTHS
-pub length_part : (a n : ℕ) (m : List ℕ) → a + n ≤ length m → length (region a n m) ≡ n
-unfolding region
-length_part a n m h = simp (length-take, length-drop) (omega arith)
-
-pub length_within : (a n : ℕ) (f : List ℕ → List ℕ) (m : List ℕ) → a + n ≤ length m → length (f (region a n m)) ≡ n → length (within a n f m) ≡ length m
-unfolding region within
-length_within a n f m h e = simp (length-append, length-take, length-drop) (omega arith)
-
 pub length_wraps : (ws : List ℕ) → length (wraps ws) ≡ length ws
 unfolding wraps
 length_wraps [] = refl

@@ -7,7 +7,7 @@ use Rattle.memtable.specs.declared.memtable.Memtable.{Memtable}
 use Rattle.table.specs.Row.{octets}
 use Rattle.table.specs.Lookup.{with_page}
 use Rattle.table.specs.declared.lookup.Lookup.{Lookup}
-use Rattle.flushing_store.specs.Acts.{ActTold, Quiet}
+use Rattle.flushing_store.specs.Acts.{Quiet}
 use Rattle.flushing_store.specs.Control.{wrap, put_control, to_phase, stage_region, ring_of}
 use Rattle.flushing_store.specs.Stage.{staged}
 use Rattle.flushing_store.specs.Look.{extent_of, looked, page_in, asked}
@@ -18,6 +18,7 @@ use Rattle.flushing_store.specs.declared.look.Looked.{Looked}
 use Rattle.flushing_store.specs.declared.look.Looked.TheVariants.{On, Found, Missing}
 use Rattle.flushing_store.specs.declared.control.Phase.TheVariants.{Idle, Writing}
 use Rattle.flushing_store.specs.declared.control.Control.{Control}
+use Rattle.store.specs.Acts.{ActTold}
 
 -- the checks that are left when the table is known not to have it
 module _ (k : Control) (m : List ℕ) (v : Version) where

@@ -1,10 +1,11 @@
 -- Was a key written at a moment? What the latest version up to that moment says of it, in a list that rises.
-use Rattle.std.proofs.Common.{◌≡◌, ℕ, suc, ◌+◌, ◌<◌, Bool, true, false, not, ◌&&◌, eqb, ltb, leb, List, [], ◌∷◌, ◌++◌, length, sym, refl, ap, ◌∙◌, subst, arith, ltb-false, ltb-true, lt-ltb, ne_eqb, eqb-true, leb-true}
+use Rattle.std.proofs.Common.{◌≡◌, ℕ, suc, ◌+◌, ◌<◌, Bool, true, false, ◌&&◌, eqb, ltb, leb, List, [], ◌∷◌, ◌++◌, sym, refl, ap, ◌∙◌, subst, arith, ltb-false, ltb-true, lt-ltb, ne_eqb, eqb-true, leb-true}
 use Rattle.value.specs.Versions.{pick, or, every, any, none_of, same, Version, latest, weight, added_up}
 use Rattle.value.specs.Rising.{rising, last_moment}
 use Rattle.value.proofs.TestLaws.{and_left_of, and_right_of}
 use Rattle.store.proofs.RisingLaws.{written_at}
 use Rattle.flushing_store.proofs.GotLaws.{latest_has}
+use Rattle.value.proofs.KeptLaws.{not_later}
 
 pub any_split : (f : Version → Bool) (xs ys : List Version) → any f (xs ++ ys) ≡ or (any f xs) (any f ys)
 unfolding any
@@ -19,11 +20,6 @@ pub weight_append : (xs ys : List Version) → weight (xs ++ ys) ≡ weight xs +
 unfolding added_up
 weight_append [] ys = omega arith
 weight_append (x ∷ xs) ys = let ih = weight_append xs ys in omega arith
-
-pub weight_push : (vs : List Version) (v : Version) → weight (vs ++ v ∷ []) ≡ weight vs + (64 + length v.key + length v.value)
-unfolding added_up
-weight_push [] v = omega arith
-weight_push (u ∷ us) v = let ih = weight_push us v in omega arith
 
 -- none has a moment above the last
 pub none_above : (vs : List Version) (k : List ℕ) (t : ℕ) → last_moment vs < t → any (written_at k t) vs ≡ false
@@ -73,17 +69,14 @@ below_it : (vs : List Version) (k : List ℕ) (s : ℕ) (u : Version) → latest
 unfolding every
 below_it vs k s u e = ltb-true u.moment s (and_left_of (ltb u.moment s) true (rw e at (latest_below vs k s)))
 
-abbrev no_earlier : Version → Version → Bool
-no_earlier v u = leb v.moment u.moment && not (same v.key u.key && eqb v.moment u.moment)
-
 -- where what is seen up to it is earlier, nothing was written at it
 pub earlier_seen : (vs : List Version) (k : List ℕ) (t : ℕ) (u : Version) → rising vs ≡ true → latest vs k (suc t) ≡ u ∷ [] → (u.moment ≡ t → ⊥) → any (written_at k t) vs ≡ false
 unfolding any latest none_of rising
 earlier_seen [] k t u r e d = cc
-earlier_seen (v ∷ vs) k t u r e d = go (latest vs k (suc t)) refl (same v.key k) (eqb v.moment t) refl e (λ q. earlier_seen vs k t u (and_right_of (every (no_earlier v) vs) (rising vs) r) q d)
+earlier_seen (v ∷ vs) k t u r e d = go (latest vs k (suc t)) refl (same v.key k) (eqb v.moment t) refl e (λ q. earlier_seen vs k t u (and_right_of (every (not_later v) vs) (rising vs) r) q d)
   where
-    up : every (no_earlier v) vs ≡ true
-    up = and_left_of (every (no_earlier v) vs) (rising vs) r
+    up : every (not_later v) vs ≡ true
+    up = and_left_of (every (not_later v) vs) (rising vs) r
 
     go : (l : List Version) → latest vs k (suc t) ≡ l → (a b : Bool) → eqb v.moment t ≡ b → pick (none_of l) (pick (a && ltb v.moment (suc t)) (v ∷ []) []) l ≡ u ∷ [] → (latest vs k (suc t) ≡ u ∷ [] → any (written_at k t) vs ≡ false) →
         or (a && b) (any (written_at k t) vs) ≡ false
@@ -99,5 +92,5 @@ earlier_seen (v ∷ vs) k t u r e d = go (latest vs k (suc t)) refl (same v.key 
     go (x ∷ xs) q true true z y ih =
         let m = eqb-true v.moment t z in
         let low = below_it vs k (suc t) u (q ∙ y) in
-        let high = leb-true v.moment u.moment (and_left_of (leb v.moment u.moment) _ (latest_has (no_earlier v) vs k (suc t) u (q ∙ y) up)) in
+        let high = leb-true v.moment u.moment (and_left_of (leb v.moment u.moment) _ (latest_has (not_later v) vs k (suc t) u (q ∙ y) up)) in
         absurd (d (omega arith))

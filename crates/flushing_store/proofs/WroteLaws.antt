@@ -16,7 +16,7 @@ use Rattle.memtable.specs.Holds.{Holds}
 use Rattle.memtable.specs.Holds as mem
 use Rattle.memtable.specs.declared.memtable.Memtable.{Memtable}
 use Rattle.memtable.proofs.AnswerLaws.{written_right}
-use Rattle.memtable.proofs.InsertLaws.{insert_right, room_right}
+use Rattle.memtable.proofs.InsertLaws.{insert_right, room_right, weight_push}
 use Rattle.memtable.proofs.SteadyLaws.{append_keeps, enter_keeps}
 use Rattle.manifest.specs.declared.fields.Manifest.{Manifest}
 use Rattle.store.specs.House.{House, a_key, written_then, write_refusal, written, unsafe, needed, full_by}
@@ -30,7 +30,7 @@ use Rattle.flushing_store.proofs.RegionLaws.{length_within, region_same, region_
 use Rattle.store.proofs.RisingLaws.{written_at, write_rises, last_push, kept_all}
 use Rattle.flushing_store.proofs.HeldLaws.{Held, small_base}
 use Rattle.flushing_store.proofs.GotLaws.{rising_back}
-use Rattle.flushing_store.proofs.WrittenLaws.{any_split, weight_append, weight_push}
+use Rattle.flushing_store.proofs.WrittenLaws.{any_split, weight_append}
 
 -- the refusal of a write or an erasure, by its version
 abbrev pub version_refusal : House → Version → ℕ

@@ -1,20 +1,10 @@
 -- How a step of the whole machine is told to the world outside: events by number, acts by an enum and a lent row.
-use Rattle.std.specs.Prelude.{◌≡◌, ℕ, Bool, true, false, ◌&&◌, List, [], ◌∷◌, length, ◌==◌, nat_le}
-use Rattle.value.specs.Versions.{pick}
-use Rattle.store.specs.House.{write, erase, get, range, first_key, last_key, count, flush, compact}
-use Rattle.store.specs.Promise.{Event, on, said, page, next}
+use Rattle.std.specs.Prelude.{◌≡◌, ℕ, Bool, true, false, ◌&&◌, List, length, ◌==◌, nat_le}
 use Rattle.flushing_store.specs.Own.{own}
 use Rattle.store.specs.declared.told.Told.{Told}
 use Rattle.store.specs.declared.told.Told.TheVariants.{No}
-use Rattle.flushing_store.specs.Acts.{ActTold}
-
--- 0 power, of so many pages; 1 write key, moment, value; 2 erase; 3 get; 4 range, from a key on; 5 range, up to another; 6 first, 7 last, 8 count, at a moment; 9 flush;
--- 10 compact; 11 a page; 12 go on
-unfoldable pub event_of : ℕ → ℕ → List ℕ → List ℕ → Event
-event_of k n as₁ bs =
-    pick (k == 0) (on n) (pick (k == 1) (said (write as₁ n bs)) (pick (k == 2) (said (erase as₁ n)) (pick (k == 3) (said (get as₁ n))
-    (pick (k == 4) (said (range as₁ [] n)) (pick (k == 5) (said (range as₁ (bs ∷ []) n)) (pick (k == 6) (said (first_key n)) (pick (k == 7) (said (last_key n))
-    (pick (k == 8) (said (count n)) (pick (k == 9) (said flush) (pick (k == 10) (said (compact n)) (pick (k == 11) (page bs) next)))))))))))
+use Rattle.store.specs.Entry.{event_of}
+use Rattle.store.specs.Acts.{ActTold}
 
 -- one step: for memories of the machine's own length, up to 4,096 bytes in each row, and a lent row of 1,280 numbers; for others number 0 is told and nothing is changed
 unfoldable pub StepSays : (memory : List ℕ) (kind n : ℕ) (as₁ bs out : List ℕ) → Bool → Told → (memory₁ out₁ : List ℕ) → Type 0

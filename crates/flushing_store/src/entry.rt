@@ -2,7 +2,8 @@
 ghost use Rattle.std.specs.Prelude.{◌≡◌, ◌≤◌, length};
 ghost use Rattle.flushing_store.specs.Acts.{Does};
 ghost use Rattle.flushing_store.specs.Own.{went_on, paged, turned};
-ghost use Rattle.flushing_store.specs.Entry.{StepSays, step_fits, event_of};
+ghost use Rattle.store.specs.Entry.{event_of};
+ghost use Rattle.flushing_store.specs.Entry.{StepSays, step_fits};
 
 use crate::control::{Control, Phase};
 use crate::flush::{commit, flush, merge_on, merge_page, put_last, put_new_list};

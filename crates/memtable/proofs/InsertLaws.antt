@@ -64,7 +64,7 @@ unfolding encode_all
 encode_push [] v = append-nil (encoded v)
 encode_push (u ∷ vs) v = ap (λ l. encoded u ++ l) (encode_push vs v) ∙ sym (append_assoc (encoded u) (encode_all vs) (encoded v))
 
-weight_push : (vs : List Version) (v : Version) → weight (vs ++ v ∷ []) ≡ weight vs + (64 + length v.key + length v.value)
+pub weight_push : (vs : List Version) (v : Version) → weight (vs ++ v ∷ []) ≡ weight vs + (64 + length v.key + length v.value)
 unfolding added_up
 weight_push [] v = omega arith
 weight_push (u ∷ vs) v = omega (arith, weight_push vs v)

@@ -132,12 +132,12 @@ stream_back ps first bs same =
     payloads_back ps (page_count (length bs)) first bs (omega arith) (λ i l. ap payload (same i l) ∙ payload_sealed (drop (504 * i) bs))
 
 -- a page that was sealed is a page, and sound
-zeros_bytes : (n : ℕ) → all_bytes (replicate n 0) ≡ true
+pub zeros_bytes : (n : ℕ) → all_bytes (replicate n 0) ≡ true
 unfolding every
 zeros_bytes zero = refl
 zeros_bytes (suc n) = zeros_bytes n
 
-payload_bytes : (bs : List ℕ) → all_bytes bs ≡ true → all_bytes (payload bs) ≡ true
+pub payload_bytes : (bs : List ℕ) → all_bytes bs ≡ true → all_bytes (payload bs) ≡ true
 unfolding payload
 payload_bytes bs b = bytes_take 504 (bs ++ replicate 504 0) (every_append is_byte bs (replicate 504 0) b (zeros_bytes 504))
 

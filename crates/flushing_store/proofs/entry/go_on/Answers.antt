@@ -1,9 +1,9 @@
 use Rattle.std.proofs.Common.{refl}
-use Rattle.flushing_store.specs.Acts.{ActTold}
 use Rattle.flushing_store.specs.Own.{went_on}
 use Rattle.flushing_store.specs.declared.control.Phase.TheVariants.{Shown, Merging, Closed, Placed, Settled, Listed, Committed}
 use Rattle.flushing_store.proofs.EntryLaws.{go_by, go_nowhere}
 use Rattle.flushing_store.proofs.entry.go_on.Goals as goal
+use Rattle.store.specs.Acts.{ActTold}
 
 pub returns-in-Shown : goal.returns-in-Shown
 unfolding went_on ActTold

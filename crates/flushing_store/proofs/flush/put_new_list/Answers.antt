@@ -1,12 +1,12 @@
 use Rattle.std.proofs.Common.{◌++◌, drop, sym, ap, ◌∙◌}
 use Rattle.manifest.specs.Manifest.{manifest_page}
 use Rattle.manifest.specs.Places.{slot_of}
-use Rattle.flushing_store.specs.Acts.{ActTold}
 use Rattle.flushing_store.specs.Target.{next_manifest}
 use Rattle.flushing_store.specs.Flush.{listed_step}
 use Rattle.store.specs.declared.told.Told.TheVariants.{Put}
 use Rattle.flushing_store.proofs.FlushLaws.{length_page}
 use Rattle.flushing_store.proofs.flush.put_new_list.Goals as goal
+use Rattle.store.specs.Acts.{ActTold}
 
 pub returns : goal.returns
 unfolding listed_step ActTold

@@ -1,7 +1,7 @@
 use Rattle.std.proofs.Common.{rules}
-use Rattle.flushing_store.specs.Acts.{ActTold}
 use Rattle.flushing_store.specs.Look.{asked}
 use Rattle.flushing_store.proofs.look.ask.Goals as goal
+use Rattle.store.specs.Acts.{ActTold}
 
 pub returns-in_default : goal.returns-in_default
 unfolding asked ActTold

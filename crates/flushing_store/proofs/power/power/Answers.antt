@@ -1,7 +1,7 @@
 use Rattle.std.proofs.Common.{rules}
-use Rattle.flushing_store.specs.Acts.{ActTold}
 use Rattle.flushing_store.specs.Power.{powered}
 use Rattle.flushing_store.proofs.power.power.Goals as goal
+use Rattle.store.specs.Acts.{ActTold}
 
 pub returns : goal.returns
 unfolding powered ActTold
