@@ -5,7 +5,7 @@ use Rattle.value.specs.Versions.{pick, same, Version, version}
 use Rattle.value.specs.Numbers.{bytes_of}
 use Rattle.value.specs.Order.{OrderSays}
 use Rattle.value.specs.Encoding.{in_limits, encoding, encoded_length, has_room, written_length, written}
-use Rattle.value.specs.declared.key.Reply.TheVariants.{Before, Same, Behind}
+use Rattle.std.specs.declared.cmp.Ordering.TheVariants.{Less, Equal, Greater}
 use Rattle.value.proofs.TestLaws.{clash}
 use Rattle.value.proofs.KeyLaws.{same_from, before_apart, before_apart'}
 use Rattle.value.proofs.NumberLaws.{length_bytes_of}
@@ -20,13 +20,13 @@ use Rattle.flushing_store.specs.Stage.{staged}
 use Rattle.flushing_store.specs.Give.{bound_after, brought, brought_length, in_hand, given_writer, with_entry, given_memory}
 
 module _ (n : ℕ) (m key last : List ℕ) (h : n ≡ 0 → ⊥) (e : last ≡ key_at (stage_region m) 0) where
-  pub bound_same : (s : ℕ) → OrderSays last key Same → s ≡ moment_at (stage_region m) 0 → s ≡ bound_after n m key
+  pub bound_same : (s : ℕ) → OrderSays last key Equal → s ≡ moment_at (stage_region m) 0 → s ≡ bound_after n m key
   bound_same s o f = rw (ne_eqb n 0 h, same_from (key_at (stage_region m) 0) key (sym e ∙ same_said last key o)) f
 
-  pub bound_before : OrderSays last key Before → no_bound ≡ bound_after n m key
+  pub bound_before : OrderSays last key Less → no_bound ≡ bound_after n m key
   bound_before o = rw (ne_eqb n 0 h, sym (ap (λ x. same x key) e) ∙ before_apart last key (before_said last key o)) refl
 
-  pub bound_behind : OrderSays last key Behind → no_bound ≡ bound_after n m key
+  pub bound_behind : OrderSays last key Greater → no_bound ≡ bound_after n m key
   bound_behind o = rw (ne_eqb n 0 h, sym (ap (λ x. same x key) e) ∙ before_apart' key last (behind_said last key o)) refl
 
 -- THE BYTES. In a row of 1,294 bytes there is room for each version within the limits.

@@ -10,7 +10,7 @@ use crate::octets::put_octets;
 use crate::stage::{read_key, stage};
 use memtable::moment_at;
 use table::{Open, Writer};
-use value::{Reply, encode, order, part_of};
+use value::{Ordering, encode, order, part_of};
 
 const NO_BOUND: u64 = 0xffff_ffff_ffff_ffff;
 
@@ -26,9 +26,9 @@ fn bound_for(memory: &[u64], blocks: u64, key: &[u8]) -> u64
     let mut last = [0u8; 255];
     let len = read_key(stage, 0, &mut last);
     match order(part_of(&last, 0, len), key) {
-        Reply::Same => moment_at(stage, 0),
-        Reply::Before => NO_BOUND,
-        Reply::Behind => NO_BOUND,
+        Ordering::Equal => moment_at(stage, 0),
+        Ordering::Less => NO_BOUND,
+        Ordering::Greater => NO_BOUND,
     }
 }
 

@@ -5,7 +5,7 @@ use Rattle.std.proofs.lemmas.Bool.{cases_lt, lt-ltb, le-ltb, ne_eqb}
 use Rattle.value.specs.Versions.{pick, every, any, each, same, Version, latest, added_up}
 use Rattle.value.specs.Sorted.{sort}
 use Rattle.value.specs.Order.{OrderSays}
-use Rattle.value.specs.declared.key.Reply.{Reply}
+use Rattle.std.specs.declared.cmp.Ordering.{Ordering}
 use Rattle.value.proofs.SortLaws.{sort_any, sort_every, sort_orders, lookup_right}
 use Rattle.value.proofs.KeyLaws.{Order, before_it, same_as, behind_it, order}
 use Rattle.memtable.specs.Arena.{version_at, moment_at, order_at}
@@ -104,7 +104,7 @@ walk_right index arena t vs i h l =
       λ k b. order_says (version_at arena (get_or index i 0)).key k (order_at arena (get_or index i 0) k) (order_there index arena t vs k h b i l),
     )
   where
-    order_says : (a b : List ℕ) (o : Reply) → o ≡ ordered a b → OrderSays a b o
+    order_says : (a b : List ℕ) (o : Ordering) → o ≡ ordered a b → OrderSays a b o
     order_says a b o e = e
 
 pub seek_right : SeekRight

@@ -1,30 +1,30 @@
 -- Loops, round by round: what is left to do gives what the whole gives.
 use Rattle.std.proofs.Common.{◌≡◌, ℕ, zero, suc, ◌+◌, ◌-◌, ◌^◌, ◌<◌, ◌≤◌, Bool, true, false, sym, refl, inl, inr, pow-suc, arith}
 use Rattle.std.proofs.lemmas.Bool.{lt-ltb, le-ltb, cases_lt, cases_Bool, both_ways}
-use Rattle.value.specs.declared.key.Reply.{Reply}
-use Rattle.value.specs.declared.key.Reply.TheVariants.{Before, Behind}
+use Rattle.std.specs.declared.cmp.Ordering.{Ordering}
+use Rattle.std.specs.declared.cmp.Ordering.TheVariants.{Less, Greater}
 use Rattle.memtable.specs.Loops.{middle, bisect, compare}
 
-pub compare_less : (f g : ℕ → ℕ) (n k : ℕ) (tie : Reply) (a b : ℕ) → k < n → a ≡ f k → b ≡ g k → a < b → compare f g (n - k) k tie ≡ Before
+pub compare_less : (f g : ℕ → ℕ) (n k : ℕ) (tie : Ordering) (a b : ℕ) → k < n → a ≡ f k → b ≡ g k → a < b → compare f g (n - k) k tie ≡ Less
 unfolding compare
 compare_less f g n k tie a b h p q l =
     let d : n - k ≡ suc (n - (k + 1)) = omega arith in
     rw (d, lt-ltb (f k) (g k) (omega arith)) refl
 
-pub compare_more : (f g : ℕ → ℕ) (n k : ℕ) (tie : Reply) (a b : ℕ) → k < n → a ≡ f k → b ≡ g k → b < a → compare f g (n - k) k tie ≡ Behind
+pub compare_more : (f g : ℕ → ℕ) (n k : ℕ) (tie : Ordering) (a b : ℕ) → k < n → a ≡ f k → b ≡ g k → b < a → compare f g (n - k) k tie ≡ Greater
 unfolding compare
 compare_more f g n k tie a b h p q l =
     let d : n - k ≡ suc (n - (k + 1)) = omega arith in
     rw (d, le-ltb (f k) (g k) (omega arith), lt-ltb (g k) (f k) (omega arith)) refl
 
-pub compare_same : (f g : ℕ → ℕ) (n k : ℕ) (tie : Reply) (a b : ℕ) → k < n → a ≡ f k → b ≡ g k → b ≤ a → a ≤ b →
+pub compare_same : (f g : ℕ → ℕ) (n k : ℕ) (tie : Ordering) (a b : ℕ) → k < n → a ≡ f k → b ≡ g k → b ≤ a → a ≤ b →
     compare f g (n - k) k tie ≡ compare f g (n - (k + 1)) (k + 1) tie
 unfolding compare
 compare_same f g n k tie a b h p q l m =
     let d : n - k ≡ suc (n - (k + 1)) = omega arith in
     rw (d, le-ltb (f k) (g k) (omega arith), le-ltb (g k) (f k) (omega arith)) refl
 
-pub compare_end : (f g : ℕ → ℕ) (n k : ℕ) (tie : Reply) → n ≤ k → compare f g (n - k) k tie ≡ tie
+pub compare_end : (f g : ℕ → ℕ) (n k : ℕ) (tie : Ordering) → n ≤ k → compare f g (n - k) k tie ≡ tie
 unfolding compare
 compare_end f g n k tie h = let d : n - k ≡ zero = omega arith in rw d refl
 

@@ -3,8 +3,8 @@ use Rattle.std.proofs.Common.{◌≡◌, ℕ, zero, suc, ◌+◌, ◌*◌, ◌/�
 use Rattle.std.proofs.lemmas.Bool.{ltb-true, lt-ltb, le-ltb, cases_order}
 use Rattle.std.proofs.lemmas.List.{ext_get_or}
 use Rattle.value.specs.Versions.{pick, every}
-use Rattle.value.specs.declared.key.Reply.{Reply}
-use Rattle.value.specs.declared.key.Reply.TheVariants.{Before, Behind}
+use Rattle.std.specs.declared.cmp.Ordering.{Ordering}
+use Rattle.std.specs.declared.cmp.Ordering.TheVariants.{Less, Greater}
 use Rattle.value.proofs.TestLaws.{and_left_of, and_right_of}
 use Rattle.memtable.specs.Words.{bytes, octet, word, words, packed_word, byte, byte_behind, row}
 use Rattle.memtable.specs.Loops.{compare}
@@ -67,22 +67,22 @@ row_packed ws bs p s n h l f =
     ∙ octet_is bs i h)
 
 -- TWO WORDS compare as their bytes do
-abbrev pub three : ℕ → ℕ → Reply → Reply
-three a b r = pick (ltb a b) Before (pick (ltb b a) Behind r)
+abbrev pub three : ℕ → ℕ → Ordering → Ordering
+three a b r = pick (ltb a b) Less (pick (ltb b a) Greater r)
 
-pub three_less : (a b : ℕ) (r : Reply) → a < b → three a b r ≡ Before
+pub three_less : (a b : ℕ) (r : Ordering) → a < b → three a b r ≡ Less
 three_less a b r h = rw (lt-ltb a b h) refl
 
-pub three_more : (a b : ℕ) (r : Reply) → b < a → three a b r ≡ Behind
+pub three_more : (a b : ℕ) (r : Ordering) → b < a → three a b r ≡ Greater
 three_more a b r h = rw (le-ltb a b (omega arith), lt-ltb b a h) refl
 
-pub three_same : (a b : ℕ) (r : Reply) → a ≡ b → three a b r ≡ r
+pub three_same : (a b : ℕ) (r : Ordering) → a ≡ b → three a b r ≡ r
 three_same a b r h = rw (le-ltb a b (omega arith), le-ltb b a (omega arith)) refl
 
 digit_less : (x y p a b : ℕ) → x < y → a < p → x * p + a < y * p + b
 digit_less x y p a b h l = omega (arith, mul-le-mul_right p h, add-mul x 1 p)
 
-digit : (x y p a b : ℕ) (r : Reply) → a < p → b < p → three x y (three a b r) ≡ three (x * p + a) (y * p + b) r
+digit : (x y p a b : ℕ) (r : Ordering) → a < p → b < p → three x y (three a b r) ≡ three (x * p + a) (y * p + b) r
 digit x y p a b r h l = elim (cases_order x y) [
   | inl e ↦ three_same x y (three a b r) e ∙ elim (cases_order a b) [
     | inl f ↦ three_same a b r f ∙ sym (three_same (x * p + a) (y * p + b) r (ap₂ (λ u v. u * p + v) e f))
@@ -97,7 +97,7 @@ digit x y p a b r h l = elim (cases_order x y) [
   ]
 ]
 
-two_words : (a b c d e f g h a₁ b₁ c₁ d₁ e₁ f₁ g₁ h₁ : ℕ) (r : Reply) →
+two_words : (a b c d e f g h a₁ b₁ c₁ d₁ e₁ f₁ g₁ h₁ : ℕ) (r : Ordering) →
     b < 256 → c < 256 → d < 256 → e < 256 → f < 256 → g < 256 → h < 256 → b₁ < 256 → c₁ < 256 → d₁ < 256 → e₁ < 256 → f₁ < 256 → g₁ < 256 → h₁ < 256 →
     three a a₁ (three b b₁ (three c c₁ (three d d₁ (three e e₁ (three f f₁ (three g g₁ (three h h₁ r))))))) ≡
     three (a * 72057594037927936 + b * 281474976710656 + c * 1099511627776 + d * 4294967296 + e * 16777216 + f * 65536 + g * 256 + h)
@@ -121,7 +121,7 @@ two_words a b c d e f g h a₁ b₁ c₁ d₁ e₁ f₁ g₁ h₁ r p₁ p₂ p�
     ∙ ap₂ (λ u v. three u v r) one two
 
 -- what two rows have the same is compared the same
-pub compare_like : (f g f₁ g₁ : ℕ → ℕ) (n k : ℕ) (tie : Reply) → ((i : ℕ) → k ≤ i → i < k + n → f i ≡ f₁ i) → ((i : ℕ) → k ≤ i → i < k + n → g i ≡ g₁ i) →
+pub compare_like : (f g f₁ g₁ : ℕ → ℕ) (n k : ℕ) (tie : Ordering) → ((i : ℕ) → k ≤ i → i < k + n → f i ≡ f₁ i) → ((i : ℕ) → k ≤ i → i < k + n → g i ≡ g₁ i) →
     compare f g n k tie ≡ compare f₁ g₁ n k tie
 unfolding compare
 compare_like f g f₁ g₁ zero k tie p q = refl
@@ -132,7 +132,7 @@ compare_like f g f₁ g₁ (suc n) k tie p q =
     ap₂ (λ u v. three u v (compare f g n (k + 1) tie)) a b ∙ ap (three (f₁ k) (g₁ k)) ih
 
 -- n words from k on are 8 n bytes from 8 k on
-pub words_bytes : (a b : List ℕ) (n k : ℕ) (tie : Reply) → compare (octet a) (octet b) (8 * n) (8 * k) tie ≡ compare (packed_word a) (packed_word b) n k tie
+pub words_bytes : (a b : List ℕ) (n k : ℕ) (tie : Ordering) → compare (octet a) (octet b) (8 * n) (8 * k) tie ≡ compare (packed_word a) (packed_word b) n k tie
 unfolding compare packed_word
 words_bytes a b zero k tie = refl
 words_bytes a b (suc n) k tie =

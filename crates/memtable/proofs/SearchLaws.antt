@@ -7,7 +7,7 @@ use Rattle.value.specs.Rising.{rising}
 use Rattle.value.specs.Sorted.{insert_new, comes_first, in_order, lookup_stop, seek}
 use Rattle.value.proofs.TestLaws.{clash, or_true_right, or_cases, and_left_of, and_right_of, every_mono, every_not_any, those_none, those_all}
 use Rattle.value.proofs.KeyLaws.{same_eq, before_irrefl, before_trans, Order, before_it, same_as, behind_it, order}
-use Rattle.value.specs.declared.key.Reply.TheVariants.{Before, Same, Behind}
+use Rattle.std.specs.declared.cmp.Ordering.TheVariants.{Less, Equal, Greater}
 use Rattle.memtable.specs.Memtable.{ahead}
 use Rattle.memtable.specs.Holds.{goes_before}
 use Rattle.memtable.proofs.KeyOrderLaws.{ordered}
@@ -17,7 +17,7 @@ pub ahead_goes : (k : List ℕ) (s : ℕ) (v : Version) → ahead (ordered v.key
 unfolding ordered
 ahead_goes k s v = go (before v.key k) (same v.key k)
   where
-    go : (a b : Bool) → ahead (pick a Before (pick b Same Behind)) v.moment s ≡ or a (b && leb s v.moment)
+    go : (a b : Bool) → ahead (pick a Less (pick b Equal Greater)) v.moment s ≡ or a (b && leb s v.moment)
     go true b = refl
     go false true = refl
     go false false = refl

@@ -4,7 +4,7 @@ use lib.Seq.{paste}
 use Rattle.std.proofs.lemmas.Bool.Decides.{nat_tests}
 use Rattle.std.proofs.lemmas.Bool.{cases_eq, leb-true, ltb-true, lt-ltb, le-ltb, ne_eqb}
 use Rattle.std.proofs.lemmas.List.{same_lists, places, get_or-set_same, length-set}
-use Rattle.value.specs.declared.key.Reply.{Reply}
+use Rattle.std.specs.declared.cmp.Ordering.{Ordering}
 use Rattle.value.specs.Versions.{Version}
 use Rattle.value.proofs.TestLaws.{and_left_of, and_right_of}
 use Rattle.memtable.specs.Words.{words, pack, put_row}
@@ -92,7 +92,7 @@ countable t i a k v p q e =
     record { key = h.key; value = h.value; versions = omega arith; used = omega arith; weight = omega arith }
 
 -- one test, by what was read
-pub ahead_by : (index arena k : List ℕ) (s i p : ℕ) (r : Reply) → p ≡ get_or index i 0 → r ≡ order_at arena p k → ahead r (moment_at arena p) s ≡ ahead_at index arena k s i
+pub ahead_by : (index arena k : List ℕ) (s i p : ℕ) (r : Ordering) → p ≡ get_or index i 0 → r ≡ order_at arena p k → ahead r (moment_at arena p) s ≡ ahead_at index arena k s i
 unfolding ahead_at
 ahead_by index arena k s i p r e o = rw (o, e) refl
 
@@ -100,7 +100,7 @@ pub found_none : (t : Memtable) (index arena k : List ℕ) (s i : ℕ) → i ≡
 unfolding found
 found_none t index arena k s i e h = rw (← e, le-ltb i (entries t index) h) refl
 
-pub found_by : (t : Memtable) (index arena k : List ℕ) (s i p : ℕ) (r : Reply) → i ≡ seek_place t index arena k s → i < entries t index →
+pub found_by : (t : Memtable) (index arena k : List ℕ) (s i p : ℕ) (r : Ordering) → i ≡ seek_place t index arena k s → i < entries t index →
     p ≡ get_or index i 0 → r ≡ order_at arena p k → if_same r p ≡ found t index arena k s
 unfolding found
 found_by t index arena k s i p r e h q o = rw (← e, lt-ltb i (entries t index) h, ← q, o) refl
@@ -109,7 +109,7 @@ pub written_none : (t : Memtable) (index arena k : List ℕ) (s i : ℕ) → i �
 unfolding written_at
 written_none t index arena k s i e h = rw (← e, h) refl
 
-pub written_by : (t : Memtable) (index arena k : List ℕ) (s i p : ℕ) (r : Reply) → i ≡ seek_place t index arena k s → (i ≡ 0 → ⊥) →
+pub written_by : (t : Memtable) (index arena k : List ℕ) (s i p : ℕ) (r : Ordering) → i ≡ seek_place t index arena k s → (i ≡ 0 → ⊥) →
     p ≡ get_or index (i - 1) 0 → r ≡ order_at arena p k → at_moment r (moment_at arena p) s ≡ written_at t index arena k s
 unfolding written_at
 written_by t index arena k s i p r e h q o = rw (← e, ne_eqb i 0 h, ← q, o) refl

@@ -6,8 +6,8 @@
 use Rattle.std.specs.Prelude.{ℕ, ◌+◌, ◌*◌, ◌/◌, ◌%◌, Bool, ◌&&◌, List, ◌∷◌, ◌++◌, length, ◌==◌, nat_le, nat_lt, slice_index}
 use Rattle.value.specs.Versions.{pick, Version, version}
 use Rattle.value.specs.Count.{smaller}
-use Rattle.value.specs.declared.key.Reply.{Reply}
-use Rattle.value.specs.declared.key.Reply.TheVariants.{Before, Same, Behind}
+use Rattle.std.specs.declared.cmp.Ordering.{Ordering}
+use Rattle.std.specs.declared.cmp.Ordering.TheVariants.{Less, Equal, Greater}
 use Rattle.memtable.specs.Words.{words, packed_word, pack, row, put_row}
 use Rattle.memtable.specs.Loops.{compare}
 
@@ -57,9 +57,9 @@ appended arena used v =
 unfoldable pub key_word : List ℕ → ℕ → ℕ → ℕ
 key_word arena p k = slice_index arena (p + (2 + k))
 
-abbrev pub by_length : ℕ → ℕ → Reply
-by_length a b = pick (nat_lt a b) Before (pick (nat_lt b a) Behind Same)
+abbrev pub by_length : ℕ → ℕ → Ordering
+by_length a b = pick (nat_lt a b) Less (pick (nat_lt b a) Greater Equal)
 
-unfoldable pub order_at : List ℕ → ℕ → List ℕ → Reply
+unfoldable pub order_at : List ℕ → ℕ → List ℕ → Ordering
 order_at arena p key =
     compare (key_word arena p) (packed_word key) (words (smaller (key_length arena p) (length key))) 0 (by_length (key_length arena p) (length key))

@@ -7,8 +7,8 @@
 use Rattle.std.specs.Prelude.{ℕ, ◌+◌, ◌-◌, ◌<◌, ◌≤◌, Bool, true, false, ◌&&◌, List, length, Some, None, Option, ◌==◌, nat_le, nat_lt, slice_index}
 use Rattle.value.specs.Versions.{pick, Version}
 use Rattle.value.specs.Count.{smaller}
-use Rattle.value.specs.declared.key.Reply.{Reply}
-use Rattle.value.specs.declared.key.Reply.TheVariants.{Before, Same, Behind}
+use Rattle.std.specs.declared.cmp.Ordering.{Ordering}
+use Rattle.std.specs.declared.cmp.Ordering.TheVariants.{Less, Equal, Greater}
 use Rattle.memtable.specs.Loops.{bisect}
 use Rattle.memtable.specs.Arena.{moment_at, order_at, size, has_room, appended}
 use Rattle.memtable.specs.Index.{entered}
@@ -41,10 +41,10 @@ abbrev pub entries : Memtable → List ℕ → ℕ
 entries t index = smaller t.versions (length index)
 
 -- does a version, by its key's order to another and its moment m, come before that key at s?
-abbrev pub ahead : Reply → ℕ → ℕ → Bool
-ahead Before m s = true
-ahead Same m s = nat_le s m
-ahead Behind m s = false
+abbrev pub ahead : Ordering → ℕ → ℕ → Bool
+ahead Less m s = true
+ahead Equal m s = nat_le s m
+ahead Greater m s = false
 
 unfoldable pub ahead_at : List ℕ → List ℕ → List ℕ → ℕ → ℕ → Bool
 ahead_at index arena k s i = ahead (order_at arena (slice_index index i) k) (moment_at arena (slice_index index i)) s
@@ -52,10 +52,10 @@ ahead_at index arena k s i = ahead (order_at arena (slice_index index i) k) (mom
 unfoldable pub seek_place : Memtable → List ℕ → List ℕ → List ℕ → ℕ → ℕ
 seek_place t index arena k s = bisect (ahead_at index arena k s) 64 0 (entries t index)
 
-abbrev pub if_same : Reply → ℕ → Option ℕ
-if_same Before p = None
-if_same Same p = Some p
-if_same Behind p = None
+abbrev pub if_same : Ordering → ℕ → Option ℕ
+if_same Less p = None
+if_same Equal p = Some p
+if_same Greater p = None
 
 abbrev pub found_from : List ℕ → List ℕ → List ℕ → ℕ → ℕ → Option ℕ
 found_from index arena k n i = pick (nat_lt i n) (if_same (order_at arena (slice_index index i) k) (slice_index index i)) None
@@ -63,10 +63,10 @@ found_from index arena k n i = pick (nat_lt i n) (if_same (order_at arena (slice
 unfoldable pub found : Memtable → List ℕ → List ℕ → List ℕ → ℕ → Option ℕ
 found t index arena k s = found_from index arena k (entries t index) (seek_place t index arena k s)
 
-abbrev pub at_moment : Reply → ℕ → ℕ → Bool
-at_moment Before m s = false
-at_moment Same m s = m == s
-at_moment Behind m s = false
+abbrev pub at_moment : Ordering → ℕ → ℕ → Bool
+at_moment Less m s = false
+at_moment Equal m s = m == s
+at_moment Greater m s = false
 
 -- the last of those before the place i
 abbrev pub written_below : List ℕ → List ℕ → List ℕ → ℕ → ℕ → Bool

@@ -5,7 +5,7 @@ ghost use Rattle.memtable.specs.Words.{words, laid, byte_behind};
 ghost use Rattle.memtable.specs.Arena.{moment_at, key_length, value_length, gone_at, key_at, value_at, measures, has_room, appended, by_length, order_at};
 
 use crate::words::{byte_behind, peek, peek_behind, put_bytes, unpack_into, word_at};
-use value::{Reply, smaller_of};
+use value::{Ordering, smaller_of};
 
 // The moment of the version at a place.
 pub fn moment_at(arena: &[u64], place: u64) -> u64
@@ -77,20 +77,20 @@ pub fn value_into(arena: &[u64], place: u64, out: &mut [u8])
 }
 
 // Two lengths: the shorter is before.
-fn by_length(a: u64, b: u64) -> Reply
+fn by_length(a: u64, b: u64) -> Ordering
     ensures { result ≡ by_length a b }
 {
     if a < b {
-        return Reply::Before;
+        return Ordering::Less;
     }
     if b < a {
-        return Reply::Behind;
+        return Ordering::Greater;
     }
-    Reply::Same
+    Ordering::Equal
 }
 
 // Where the key at a place stands to another: word by word, and by their lengths where all words are the same.
-pub fn order_at(arena: &[u64], place: u64, key: &[u8]) -> Reply
+pub fn order_at(arena: &[u64], place: u64, key: &[u8]) -> Ordering
     ensures { result ≡ order_at arena.now place key.now }
 {
     let length = key_len(arena, place);
@@ -99,10 +99,10 @@ pub fn order_at(arena: &[u64], place: u64, key: &[u8]) -> Reply
         let mine = peek_behind(arena, place, 2 + k);
         let other = word_at(key, 8 * k);
         if mine < other {
-            return Reply::Before;
+            return Ordering::Less;
         }
         if other < mine {
-            return Reply::Behind;
+            return Ordering::Greater;
         }
     }
     by_length(length, key.len() as u64)

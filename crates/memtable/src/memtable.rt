@@ -5,7 +5,7 @@ ghost use Rattle.memtable.specs.Memtable.{none, accepts, Countable, one_more, af
 
 use crate::arena::{append, has_room, moment_at, order_at};
 use crate::index::{enter, place_at};
-use value::{Reply, smaller_of};
+use value::{Ordering, smaller_of};
 
 // All that is held weighs at most so much.
 pub const LIMIT: u64 = 1048576;
@@ -40,9 +40,9 @@ fn is_ahead(index: &[u64], arena: &[u64], key: &[u8], moment: u64, i: u64) -> bo
 {
     let place = place_at(index, i);
     match order_at(arena, place, key) {
-        Reply::Before => true,
-        Reply::Same => moment <= moment_at(arena, place),
-        Reply::Behind => false,
+        Ordering::Less => true,
+        Ordering::Equal => moment <= moment_at(arena, place),
+        Ordering::Greater => false,
     }
 }
 
@@ -113,9 +113,9 @@ impl Memtable {
         }
         let place = place_at(index, i);
         match order_at(arena, place, key) {
-            Reply::Before => None,
-            Reply::Same => Some(place),
-            Reply::Behind => None,
+            Ordering::Less => None,
+            Ordering::Equal => Some(place),
+            Ordering::Greater => None,
         }
     }
 
@@ -129,9 +129,9 @@ impl Memtable {
         }
         let place = place_at(index, next - 1);
         match order_at(arena, place, key) {
-            Reply::Before => false,
-            Reply::Same => moment_at(arena, place) == moment,
-            Reply::Behind => false,
+            Ordering::Less => false,
+            Ordering::Equal => moment_at(arena, place) == moment,
+            Ordering::Greater => false,
         }
     }
 

@@ -3,7 +3,7 @@ use Rattle.std.proofs.Common.{◌≡◌, ℕ, zero, suc, ◌+◌, ◌≤◌, Boo
 use Rattle.value.specs.Versions.{pick, before, Version}
 use Rattle.value.specs.Order.{OrderSays}
 use Rattle.value.specs.Sorted.{weave, merge, sort}
-use Rattle.value.specs.declared.key.Reply.TheVariants.{Before, Same, Behind}
+use Rattle.std.specs.declared.cmp.Ordering.TheVariants.{Less, Equal, Greater}
 use Rattle.value.proofs.KeyLaws.{before_irrefl, before_not}
 use Rattle.value.proofs.OrderLaws.{before_said, same_said, behind_said}
 use Rattle.value.proofs.SortLaws.{sort_weighs}
@@ -12,13 +12,13 @@ use Rattle.merge.specs.Choice.{chosen, merged_by, ChoiceMerges}
 use Rattle.merge.specs.declared.choice.Next.TheVariants.{Later, Earlier}
 
 -- what the order of two keys chooses
-pub later_before : (x y : List ℕ) → OrderSays x y Before → Later ≡ chosen (Some x) (Some y)
+pub later_before : (x y : List ℕ) → OrderSays x y Less → Later ≡ chosen (Some x) (Some y)
 later_before x y o = rw (before_not x y (before_said x y o)) refl
 
-pub later_same : (x y : List ℕ) → OrderSays x y Same → Later ≡ chosen (Some x) (Some y)
+pub later_same : (x y : List ℕ) → OrderSays x y Equal → Later ≡ chosen (Some x) (Some y)
 later_same x y o = let e : before y x ≡ false = rw (same_said x y o) (before_irrefl y) in rw e refl
 
-pub earlier_behind : (x y : List ℕ) → OrderSays x y Behind → Earlier ≡ chosen (Some x) (Some y)
+pub earlier_behind : (x y : List ℕ) → OrderSays x y Greater → Earlier ≡ chosen (Some x) (Some y)
 earlier_behind x y o = rw (behind_said x y o) refl
 
 -- two heads: the choice is a test of their keys

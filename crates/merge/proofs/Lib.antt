@@ -2,4 +2,3 @@ pub mod ChoiceLaws
 pub mod StreamLaws
 pub mod WalkLaws
 pub mod NewestLaws
-pub mod PaddedLaws

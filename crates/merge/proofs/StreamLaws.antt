@@ -5,12 +5,12 @@ use Rattle.std.proofs.lemmas.List.{take_all}
 use Rattle.value.specs.Versions.{same}
 use Rattle.value.specs.Order.{OrderSays}
 use Rattle.value.specs.Count.{smaller}
-use Rattle.merge.specs.Padded.{padded}
-use Rattle.value.specs.declared.key.Reply.TheVariants.{Before, Same, Behind}
+use Rattle.value.specs.Padded.{padded}
+use Rattle.std.specs.declared.cmp.Ordering.TheVariants.{Less, Equal, Greater}
 use Rattle.value.proofs.TestLaws.{and_false_right}
 use Rattle.value.proofs.KeyLaws.{same_from, before_apart, before_apart'}
 use Rattle.value.proofs.OrderLaws.{before_said, same_said, behind_said}
-use Rattle.merge.proofs.PaddedLaws.{padded_is_take}
+use Rattle.value.proofs.PaddedLaws.{padded_is_take}
 use Rattle.merge.specs.declared.stream.Passed.{Passed}
 use Rattle.merge.specs.Stream.{held}
 
@@ -56,11 +56,11 @@ held_long key copied n below e f h =
     λ i. made (r i) (l i) below
 
 -- what the order of the last key and another says
-pub apart_before : (a k : List ℕ) (p : Bool) → OrderSays a k Before → false ≡ (p && same a k)
+pub apart_before : (a k : List ℕ) (p : Bool) → OrderSays a k Less → false ≡ (p && same a k)
 apart_before a k p o = rw (before_apart a k (before_said a k o)) (sym (and_false_right p))
 
-pub apart_behind : (a k : List ℕ) (p : Bool) → OrderSays a k Behind → false ≡ (p && same a k)
+pub apart_behind : (a k : List ℕ) (p : Bool) → OrderSays a k Greater → false ≡ (p && same a k)
 apart_behind a k p o = rw (before_apart' k a (behind_said a k o)) (sym (and_false_right p))
 
-pub passed_same : (a k : List ℕ) (p : Bool) → p ≡ true → OrderSays a k Same → true ≡ (p && same a k)
+pub passed_same : (a k : List ℕ) (p : Bool) → p ≡ true → OrderSays a k Equal → true ≡ (p && same a k)
 passed_same a k p e o = rw (e, same_from a k (same_said a k o)) refl

@@ -3,13 +3,13 @@ use Rattle.std.proofs.Common.{◌≡◌, ℕ, ◌<◌, ◌≤◌, Bool, true, fa
 use Rattle.std.proofs.lemmas.Bool.{lt-ltb, le-ltb, cases_lt}
 use Rattle.std.proofs.lemmas.List.{take_all}
 use Rattle.value.specs.Versions.{pick, or, every, before, up_to_key, Version, all_seen}
-use Rattle.merge.specs.Padded.{padded}
+use Rattle.value.specs.Padded.{padded}
 use Rattle.value.specs.Sorted.{sort, passed, kept_from, visible_from, seek, until}
 use Rattle.value.proofs.TestLaws.{and_left_of, and_right_of}
 use Rattle.value.proofs.SortLaws.{sort_every}
 use Rattle.value.proofs.ForgettingLaws.{forget_right}
 use Rattle.value.proofs.VisibleLaws.{visible_right}
-use Rattle.merge.proofs.PaddedLaws.{length_padded, padded_is_take, take_padded}
+use Rattle.value.proofs.PaddedLaws.{length_padded, padded_is_take, take_padded}
 use Rattle.merge.specs.declared.stream.Passed.{Passed}
 use Rattle.merge.specs.Stream.{held, last_key, keeps, shows, next, walked, begun, short, to_keep, to_show, Holds, WalkKeeps, WalkShows}
 

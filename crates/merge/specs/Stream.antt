@@ -13,7 +13,7 @@
 use Rattle.std.specs.Prelude.{◌≡◌, ℕ, Bool, true, false, not, ◌&&◌, List, [], ◌∷◌, length, take, nat_le, nat_lt}
 use Rattle.value.specs.Versions.{pick, or, same, every, Version, all_keys, all_seen, in_range, kept}
 use Rattle.value.specs.Count.{smaller}
-use Rattle.merge.specs.Padded.{padded}
+use Rattle.value.specs.Padded.{padded}
 use Rattle.value.specs.Sorted.{latest_of, sort, kept_from, visible_from, slim, seek, until}
 use Rattle.merge.specs.declared.stream.Passed.{Passed}
 

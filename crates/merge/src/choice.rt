@@ -2,7 +2,7 @@
 ghost use Rattle.std.specs.Prelude.{◌≡◌};
 ghost use Rattle.merge.specs.Choice.{lent, chosen};
 
-use value::{Reply, order};
+use value::{Ordering, order};
 
 // The run that the next version comes from.
 #[derive(Clone, Copy)]
@@ -21,9 +21,9 @@ pub fn choose(later: Option<&[u8]>, earlier: Option<&[u8]>) -> Next
         (Some(_), None) => Next::Later,
         (None, Some(_)) => Next::Earlier,
         (Some(one), Some(two)) => match order(one, two) {
-            Reply::Before => Next::Later,
-            Reply::Same => Next::Later,
-            Reply::Behind => Next::Earlier,
+            Ordering::Less => Next::Later,
+            Ordering::Equal => Next::Later,
+            Ordering::Greater => Next::Earlier,
         },
     }
 }

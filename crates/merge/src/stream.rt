@@ -2,7 +2,7 @@
 ghost use Rattle.std.specs.Prelude.{◌≡◌, false, []};
 ghost use Rattle.merge.specs.Stream.{held, has_passed, newest_at, shown_at, kept_at, passed_at};
 
-use value::{Reply, order};
+use value::{Ordering, order};
 
 // What a walk carries: the key that it passed last, of a key over 255 bytes those 255 that it begins with, and whether one of that key below the
 // moment passed.
@@ -43,9 +43,9 @@ impl Passed {
             return false;
         }
         match order(&self.key[..self.len as usize], key) {
-            Reply::Before => false,
-            Reply::Same => true,
-            Reply::Behind => false,
+            Ordering::Less => false,
+            Ordering::Equal => true,
+            Ordering::Greater => false,
         }
     }
 

@@ -3,7 +3,7 @@ ghost use Rattle.std.specs.Prelude.{◌≡◌, None};
 ghost use Rattle.table.specs.Reading.{block_bound, head_key, first_in, next_in, wanted_at, found_in};
 ghost use Rattle.value.specs.Encoding.{end_of};
 
-use value::{Place, Reply, key_of, order, parse, part_of, read_u64};
+use value::{Place, Ordering, key_of, order, parse, part_of, read_u64};
 
 // The moment of the version before the block, if that has the same key as its first; else 2^64 - 1.
 pub fn bound(block: &[u8]) -> u64
@@ -45,9 +45,9 @@ fn is_wanted(block: &[u8], place: Place, key: &[u8], moment: u64) -> bool
     ensures { result ≡ wanted_at block.now key.now moment place }
 {
     match order(key_of(block, place), key) {
-        Reply::Same => place.moment < moment,
-        Reply::Before => false,
-        Reply::Behind => false,
+        Ordering::Equal => place.moment < moment,
+        Ordering::Less => false,
+        Ordering::Greater => false,
     }
 }
 

@@ -3,7 +3,7 @@ ghost use Rattle.std.specs.Prelude.{◌≡◌, ◌≤◌, true};
 ghost use Rattle.table.specs.Blocks.{ahead};
 ghost use Rattle.table.specs.Search.{middle as middle_of, narrowed};
 
-use value::{Reply, order};
+use value::{Ordering, order};
 
 // The blocks before `low` are ahead of what a reading wants, those from `high` on are not.
 #[derive(Clone, Copy)]
@@ -17,9 +17,9 @@ pub fn is_ahead(bound: u64, head: &[u8], key: &[u8], moment: u64) -> bool
     ensures { result ≡ ahead key.now moment bound head.now }
 {
     match order(head, key) {
-        Reply::Before => true,
-        Reply::Same => moment <= bound,
-        Reply::Behind => false,
+        Ordering::Less => true,
+        Ordering::Equal => moment <= bound,
+        Ordering::Greater => false,
     }
 }
 

@@ -12,3 +12,4 @@ pub mod UpstreamLaws
 pub mod NumberLaws
 pub mod EncodingLaws
 pub mod ListLaws
+pub mod PaddedLaws

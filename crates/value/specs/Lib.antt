@@ -7,3 +7,5 @@ pub mod Count
 pub mod Upstream
 pub mod Numbers
 pub mod Encoding
+pub mod Padded
+pub mod Said

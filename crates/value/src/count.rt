@@ -6,5 +6,5 @@ ghost use Rattle.value.specs.Count.{smaller};
 pub fn smaller_of(a: u64, b: u64) -> u64
     ensures { result ≡ smaller a b }
 {
-    if a < b { a } else { b }
+    a.min(b)
 }

@@ -1,56 +1,52 @@
 // Numbers in rows of bytes, the lowest byte first.
 ghost use Rattle.std.specs.Prelude.{◌≡◌, ◌+◌, ◌-◌, ◌≤◌, length, drop, slice_index};
 ghost use Rattle.value.specs.Numbers.{number_at, part, put_at};
+ghost use Rattle.value.specs.Padded.{padded as padded_to};
 
 // The row from a place on.
 pub fn rest(row: &[u8], at: usize) -> &[u8]
     ensures is { result.now ≡ drop at row.now }
     ensures len { length result.now ≡ length row.now - at }
 {
-    if at >= row.len() {
-        return &row[row.len()..];
-    }
-    &row[at..]
+    &row[at.min(row.len())..]
 }
 
 // The byte at a place, or 0 past the end.
 pub fn byte(row: &[u8], at: usize) -> u8
     ensures { result ≡ slice_index row.now at }
 {
-    if at < row.len() { row[at] } else { 0 }
+    row.get(at).copied().unwrap_or(0)
+}
+
+// The first N bytes; past the end they count as 0.
+pub fn padded<const N: usize>(row: &[u8]) -> [u8; N]
+    ensures { result ≡ padded_to N row.now }
+{
+    let mut bytes = [0; N];
+    let len = N.min(row.len());
+    bytes[..len].copy_from_slice(&row[..len]);
+    bytes
 }
 
 // The number in the two bytes at a place; past the end bytes count as 0.
 pub fn read_u16(row: &[u8], at: usize) -> u16
     ensures { result ≡ number_at 2 at row.now }
 {
-    let from = rest(row, at);
-    u16::from_le_bytes([byte(from, 0), byte(from, 1)])
+    u16::from_le_bytes(padded(rest(row, at)))
 }
 
 // The number in the four bytes at a place; past the end bytes count as 0.
 pub fn read_u32(row: &[u8], at: usize) -> u32
     ensures { result ≡ number_at 4 at row.now }
 {
-    let from = rest(row, at);
-    u32::from_le_bytes([byte(from, 0), byte(from, 1), byte(from, 2), byte(from, 3)])
+    u32::from_le_bytes(padded(rest(row, at)))
 }
 
 // The number in the eight bytes at a place; past the end bytes count as 0.
 pub fn read_u64(row: &[u8], at: usize) -> u64
     ensures { result ≡ number_at 8 at row.now }
 {
-    let from = rest(row, at);
-    u64::from_le_bytes([
-        byte(from, 0),
-        byte(from, 1),
-        byte(from, 2),
-        byte(from, 3),
-        byte(from, 4),
-        byte(from, 5),
-        byte(from, 6),
-        byte(from, 7),
-    ])
+    u64::from_le_bytes(padded(rest(row, at)))
 }
 
 // The bytes at a place, as many as asked for or as there are.
@@ -58,10 +54,7 @@ pub fn part_of(row: &[u8], at: usize, len: usize) -> &[u8]
     ensures { result.now ≡ part at len row.now }
 {
     let from = rest(row, at);
-    if len >= from.len() {
-        return from;
-    }
-    &from[0..len]
+    &from[..len.min(from.len())]
 }
 
 // Writes bytes over those at a place.

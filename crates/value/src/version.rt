@@ -1,17 +1,27 @@
 // A version in bytes: where it lies in a lent row, and how it is written. specs/Encoding.antt has the layout.
 ghost use Rattle.std.specs.Prelude.{◌≡◌, ◌<◌, ◌≤◌, IfSome};
-ghost use Rattle.value.specs.Versions.{version};
+ghost use Rattle.value.specs.Said.{said};
 ghost use Rattle.value.specs.Encoding.{limits, head, written_length, written, parsed, key_at, value_at, version_at, Lies};
 ghost use Rattle.value.specs.Order.{version_order};
 
-use crate::key::{Reply, order};
+use crate::key::order;
 use crate::number::{part_of, put, read_u16, read_u32, read_u64, rest};
+use std::cmp::Ordering;
 
 const HEAD: usize = 15;
 
 const UNKNOWN_KIND: u16 = 4096;
 
 const TOO_LATE: u64 = 0x8000_0000_0000_0000;
+
+// A version as it is said: a key, the moment of its writing, and a value, or that the key is gone.
+#[derive(Clone, Copy)]
+pub struct Version<'a> {
+    pub key: &'a [u8],
+    pub moment: u64,
+    pub gone: bool,
+    pub value: &'a [u8],
+}
 
 // Where a version lies in a row.
 #[derive(Clone, Copy)]
@@ -115,10 +125,16 @@ fn head_of(key_len: usize, moment: u64, gone: bool, value_len: usize) -> [u8; 15
 }
 
 // Writes a version at the front of `out`, and says how many bytes it took; outside the limits, or without room, nothing.
-pub fn encode(key: &[u8], moment: u64, gone: bool, value: &[u8], out: &mut [u8]) -> Option<usize>
-    ensures len { result ≡ written_length (version key.now moment gone value.now) out.old }
-    ensures bytes { out.new ≡ written (version key.now moment gone value.now) out.old }
+pub fn encode(version: Version<'_>, out: &mut [u8]) -> Option<usize>
+    ensures len { result ≡ written_length (said version.entry) out.old }
+    ensures bytes { out.new ≡ written (said version.entry) out.old }
 {
+    let Version {
+        key,
+        moment,
+        gone,
+        value,
+    } = version;
     if !in_limits(key.len(), moment, gone, value.len()) {
         return None;
     }
@@ -133,20 +149,8 @@ pub fn encode(key: &[u8], moment: u64, gone: bool, value: &[u8], out: &mut [u8])
 }
 
 // Where the version at a place of one row stands to that of another: by key, of one key the newest first.
-pub fn order_versions(row_a: &[u8], place_a: Place, row_b: &[u8], place_b: Place) -> Reply
+pub fn order_versions(row_a: &[u8], place_a: Place, row_b: &[u8], place_b: Place) -> Ordering
     ensures { result ≡ version_order (version_at row_a.now place_a) (version_at row_b.now place_b) }
 {
-    match order(key_of(row_a, place_a), key_of(row_b, place_b)) {
-        Reply::Before => Reply::Before,
-        Reply::Behind => Reply::Behind,
-        Reply::Same => {
-            if place_a.moment > place_b.moment {
-                Reply::Before
-            } else if place_a.moment < place_b.moment {
-                Reply::Behind
-            } else {
-                Reply::Same
-            }
-        }
-    }
+    order(key_of(row_a, place_a), key_of(row_b, place_b)).then(place_b.moment.cmp(&place_a.moment))
 }

@@ -3,15 +3,15 @@ use Rattle.flushing_store.specs.Control.{region}
 use Rattle.flushing_store.proofs.GiveLaws.{bound_same, bound_before, bound_behind}
 use Rattle.flushing_store.proofs.give.bound_for.Goals as goal
 
-pub returns-in-Same : goal.returns-in-Same
+pub returns-in-Equal : goal.returns-in-Equal
 unfolding region
-returns-in-Same c =
-    bound_same c.args.blocks c.args.memory.now c.args.key.now _ c.if-blocks-eq0.false (c.part_of.ensures ∙ c.read_key-len.ensures) _ c.in-Same.ensures c.moment_at.ensures
+returns-in-Equal c =
+    bound_same c.args.blocks c.args.memory.now c.args.key.now _ c.if-blocks-eq0.false (c.part_of.ensures ∙ c.read_key-len.ensures) _ c.in-Equal.ensures c.moment_at.ensures
 
-pub returns-in-Before : goal.returns-in-Before
+pub returns-in-Less : goal.returns-in-Less
 unfolding region
-returns-in-Before c = bound_before c.args.blocks c.args.memory.now c.args.key.now _ c.if-blocks-eq0.false (c.part_of.ensures ∙ c.read_key-len.ensures) c.in-Before.ensures
+returns-in-Less c = bound_before c.args.blocks c.args.memory.now c.args.key.now _ c.if-blocks-eq0.false (c.part_of.ensures ∙ c.read_key-len.ensures) c.in-Less.ensures
 
-pub returns-in-Behind : goal.returns-in-Behind
+pub returns-in-Greater : goal.returns-in-Greater
 unfolding region
-returns-in-Behind c = bound_behind c.args.blocks c.args.memory.now c.args.key.now _ c.if-blocks-eq0.false (c.part_of.ensures ∙ c.read_key-len.ensures) c.in-Behind.ensures
+returns-in-Greater c = bound_behind c.args.blocks c.args.memory.now c.args.key.now _ c.if-blocks-eq0.false (c.part_of.ensures ∙ c.read_key-len.ensures) c.in-Greater.ensures

@@ -4,14 +4,14 @@ use Rattle.value.specs.Order.{OrderSays}
 use Rattle.value.proofs.KeyLaws.{before_apart}
 use Rattle.table.proofs.block.is_wanted.Goals as goal
 
-pub returns-in-Same : goal.returns-in-Same
+pub returns-in-Equal : goal.returns-in-Equal
 unfolding OrderSays
-returns-in-Same c = grind (arith, nat_tests, c.in-Same.ensures, c.key_of.ensures)
+returns-in-Equal c = grind (arith, nat_tests, c.in-Equal.ensures, c.key_of.ensures)
 
-pub returns-in-Before : goal.returns-in-Before
+pub returns-in-Less : goal.returns-in-Less
 unfolding OrderSays
-returns-in-Before c = grind (arith, nat_tests, c.in-Before.ensures, c.key_of.ensures, before_apart)
+returns-in-Less c = grind (arith, nat_tests, c.in-Less.ensures, c.key_of.ensures, before_apart)
 
-pub returns-in-Behind : goal.returns-in-Behind
+pub returns-in-Greater : goal.returns-in-Greater
 unfolding OrderSays
-returns-in-Behind c = grind (arith, nat_tests, c.in-Behind.ensures, c.key_of.ensures)
+returns-in-Greater c = grind (arith, nat_tests, c.in-Greater.ensures, c.key_of.ensures)

@@ -4,14 +4,14 @@ use Rattle.value.specs.Order.{OrderSays}
 use Rattle.table.specs.Blocks.{ahead}
 use Rattle.table.proofs.search.is_ahead.Goals as goal
 
-pub returns-in-Before : goal.returns-in-Before
+pub returns-in-Less : goal.returns-in-Less
 unfolding ahead OrderSays
-returns-in-Before c = grind (arith, nat_tests, c.in-Before.ensures)
+returns-in-Less c = grind (arith, nat_tests, c.in-Less.ensures)
 
-pub returns-in-Same : goal.returns-in-Same
+pub returns-in-Equal : goal.returns-in-Equal
 unfolding ahead OrderSays
-returns-in-Same c = grind (arith, nat_tests, c.in-Same.ensures)
+returns-in-Equal c = grind (arith, nat_tests, c.in-Equal.ensures)
 
-pub returns-in-Behind : goal.returns-in-Behind
+pub returns-in-Greater : goal.returns-in-Greater
 unfolding ahead OrderSays
-returns-in-Behind c = grind (arith, nat_tests, c.in-Behind.ensures)
+returns-in-Greater c = grind (arith, nat_tests, c.in-Greater.ensures)
