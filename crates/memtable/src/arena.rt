@@ -1,11 +1,12 @@
 // The arena: versions in lent words, in the order in which they came. Whatever the words are, each read gives something and no write leaves the row.
 ghost use Rattle.std.specs.Prelude.{◌≡◌, ◌+◌, ◌*◌, ◌%◌, ◌<◌, ◌≤◌, length};
-ghost use Rattle.value.specs.Versions.{version};
+ghost use Rattle.value.specs.Said.{said};
 ghost use Rattle.memtable.specs.Words.{words, laid, byte_behind};
 ghost use Rattle.memtable.specs.Arena.{moment_at, key_length, value_length, gone_at, key_at, value_at, measures, has_room, appended, by_length, order_at};
 
 use crate::words::{byte_behind, peek, peek_behind, put_bytes, unpack_into, word_at};
-use value::{Ordering, smaller_of};
+use std::cmp::Ordering;
+use value::{Version, smaller_of};
 
 // The moment of the version at a place.
 pub fn moment_at(arena: &[u64], place: u64) -> u64
@@ -80,13 +81,7 @@ pub fn value_into(arena: &[u64], place: u64, out: &mut [u8])
 fn by_length(a: u64, b: u64) -> Ordering
     ensures { result ≡ by_length a b }
 {
-    if a < b {
-        return Ordering::Less;
-    }
-    if b < a {
-        return Ordering::Greater;
-    }
-    Ordering::Equal
+    a.cmp(&b)
 }
 
 // Where the key at a place stands to another: word by word, and by their lengths where all words are the same.
@@ -132,9 +127,15 @@ pub fn has_room(n: u64, used: u64, k: u64, v: u64) -> bool
 }
 
 // Writes a version behind the words that are used. If it is not allowed or finds no room, nothing is changed.
-pub fn append(arena: &mut [u64], used: u64, key: &[u8], moment: u64, gone: bool, value: &[u8])
-    ensures { arena.new ≡ appended arena.old used (version key.now moment gone value.now) }
+pub fn append(arena: &mut [u64], used: u64, version: Version<'_>)
+    ensures { arena.new ≡ appended arena.old used (said version.entry) }
 {
+    let Version {
+        key,
+        moment,
+        gone,
+        value,
+    } = version;
     let k = key.len() as u64;
     let v = value.len() as u64;
     if !has_room(arena.len() as u64, used, k, v) {

@@ -1,11 +1,12 @@
 // The memtable: versions of keys in two lent rows of words, found by binary search. Whatever the words are, each function answers, and ends.
 ghost use Rattle.std.specs.Prelude.{◌≡◌, ◌≤◌};
-ghost use Rattle.value.specs.Versions.{version};
+ghost use Rattle.value.specs.Said.{said};
 ghost use Rattle.memtable.specs.Memtable.{none, accepts, Countable, one_more, after_one, entries, ahead_at, seek_place, found, written_at, table_after, index_after, arena_after};
 
 use crate::arena::{append, has_room, moment_at, order_at};
 use crate::index::{enter, place_at};
-use value::{Ordering, smaller_of};
+use std::cmp::Ordering;
+use value::{Version, smaller_of};
 
 // All that is held weighs at most so much.
 pub const LIMIT: u64 = 1048576;
@@ -136,28 +137,20 @@ impl Memtable {
     }
 
     // Takes a version in, the newest of its key. If there is no room for it or its key or value is not allowed, nothing is changed and the same memtable comes back.
-    pub fn insert(
-        self,
-        index: &mut [u64],
-        arena: &mut [u64],
-        key: &[u8],
-        moment: u64,
-        gone: bool,
-        value: &[u8],
-    ) -> Memtable
-        ensures table { result ≡ table_after self index.old arena.old (version key.now moment gone value.now) }
-        ensures index { index.new ≡ index_after self index.old arena.old (version key.now moment gone value.now) }
-        ensures arena { arena.new ≡ arena_after self index.old arena.old (version key.now moment gone value.now) }
+    pub fn insert(self, index: &mut [u64], arena: &mut [u64], version: Version<'_>) -> Memtable
+        ensures table { result ≡ table_after self index.old arena.old (said version.entry) }
+        ensures index { index.new ≡ index_after self index.old arena.old (said version.entry) }
+        ensures arena { arena.new ≡ arena_after self index.old arena.old (said version.entry) }
     {
         let i = index.len() as u64;
         let a = arena.len() as u64;
-        let k = key.len() as u64;
-        let v = value.len() as u64;
+        let k = version.key.len() as u64;
+        let v = version.value.len() as u64;
         if !self.accepts(i, a, k, v) {
             return self;
         }
-        let at = self.seek(index, arena, key, moment);
-        append(arena, self.used, key, moment, gone, value);
+        let at = self.seek(index, arena, version.key, version.moment);
+        append(arena, self.used, version);
         enter(index, self.versions, at, self.used);
         self.with_one(i, a, k, v)
     }

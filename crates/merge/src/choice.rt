@@ -2,7 +2,8 @@
 ghost use Rattle.std.specs.Prelude.{◌≡◌};
 ghost use Rattle.merge.specs.Choice.{lent, chosen};
 
-use value::{Ordering, order};
+use std::cmp::Ordering;
+use value::order;
 
 // The run that the next version comes from.
 #[derive(Clone, Copy)]

@@ -2,7 +2,8 @@
 ghost use Rattle.std.specs.Prelude.{◌≡◌, false, []};
 ghost use Rattle.merge.specs.Stream.{held, has_passed, newest_at, shown_at, kept_at, passed_at};
 
-use value::{Ordering, order};
+use std::cmp::Ordering;
+use value::order;
 
 // What a walk carries: the key that it passed last, of a key over 255 bytes those 255 that it begins with, and whether one of that key below the
 // moment passed.

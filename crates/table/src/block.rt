@@ -3,7 +3,8 @@ ghost use Rattle.std.specs.Prelude.{◌≡◌, None};
 ghost use Rattle.table.specs.Reading.{block_bound, head_key, first_in, next_in, wanted_at, found_in};
 ghost use Rattle.value.specs.Encoding.{end_of};
 
-use value::{Place, Ordering, key_of, order, parse, part_of, read_u64};
+use std::cmp::Ordering;
+use value::{Place, key_of, order, parse, part_of, read_u64};
 
 // The moment of the version before the block, if that has the same key as its first; else 2^64 - 1.
 pub fn bound(block: &[u8]) -> u64

@@ -42,7 +42,7 @@ pub fn block_into(entry: Entry, ring: &[u64], block: &mut [u8]) -> usize
 }
 
 impl Cursor {
-    // Less the first version.
+    // Before the first version.
     pub fn new() -> Cursor
         ensures { result ≡ new_cursor }
     {
@@ -118,7 +118,7 @@ impl Cursor {
         parse(block, self.at as usize)
     }
 
-    // Greater a version of the block: to the next in it, or to the first of the next block.
+    // Behind a version of the block: to the next in it, or to the first of the next block.
     pub fn advance(self, entry: Entry, place: Place) -> Cursor
         ensures { result ≡ advanced self entry place }
     {

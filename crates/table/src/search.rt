@@ -3,7 +3,8 @@ ghost use Rattle.std.specs.Prelude.{◌≡◌, ◌≤◌, true};
 ghost use Rattle.table.specs.Blocks.{ahead};
 ghost use Rattle.table.specs.Search.{middle as middle_of, narrowed};
 
-use value::{Ordering, order};
+use std::cmp::Ordering;
+use value::order;
 
 // The blocks before `low` are ahead of what a reading wants, those from `high` on are not.
 #[derive(Clone, Copy)]
