@@ -8,7 +8,7 @@ use Rattle.value.proofs.NumberLaws.{byte_there}
 use Rattle.table.specs.Device.{Page, page_at}
 use Rattle.table.specs.Sizes.{page_count}
 use Rattle.table.specs.Stream.{payload, payloads, Holds}
-use Rattle.table.specs.Load.{placed}
+use Rattle.table.specs.Load.{placed_at, placed}
 use Rattle.table.specs.Cursor.{ringed, block_with, OfBytes}
 use Rattle.table.specs.declared.lookup.Entry.{Entry}
 use Rattle.table.proofs.StreamLaws.{length_payload, span_front, span_take, span_read}
@@ -54,7 +54,7 @@ block_front e ring block h =
 -- one payload more: it is in its place, and the others are in theirs
 module _ (s : ℕ) (p ring : List ℕ) (few : s < 4) (long : length ring ≡ 2016) where
   placed_is : placed s p ring ≡ take (504 * s) ring ++ (payload p ++ drop (504 * s + 504) ring)
-  unfolding placed
+  unfolding placed_at
   placed_is =
       rw (lt-ltb s 4 few, le-leb 2016 (length ring) (omega arith), length_payload p, drop-drop 504 (504 * s) ring) refl
 
