@@ -9,7 +9,8 @@ use Rattle.memtable.specs.Words.{bytes, words, packed_word, pack}
 use Rattle.memtable.specs.Loops.{compare}
 use Rattle.memtable.specs.Arena.{moment_at, key_length, value_length, gone_at, key_at, value_at, version_at, wrap, measures, size, encoded, key_word, by_length, order_at}
 use Rattle.memtable.specs.Holds.{fits, Stands}
-use Rattle.memtable.proofs.WordLaws.{length_pack, get_or_pack, smaller_is_min}
+use Rattle.value.proofs.CountLaws.{smaller_is_min}
+use Rattle.memtable.proofs.WordLaws.{length_pack, get_or_pack}
 use Rattle.memtable.proofs.PackLaws.{row_packed, compare_like}
 use Rattle.memtable.proofs.KeyOrderLaws.{ordered, words_order}
 

@@ -18,7 +18,8 @@ use Rattle.memtable.specs.Index.{moved, entered}
 use Rattle.memtable.specs.Memtable.{accepts, Countable, one_more, after_one, entries, ahead, ahead_at, seek_place, if_same, found, at_moment, written_at, accepts_it, index_after, arena_after}
 use Rattle.memtable.specs.Holds.{RefusedSame}
 use Rattle.memtable.specs.declared.memtable.Memtable.{Memtable}
-use Rattle.memtable.proofs.WordLaws.{length_pack, put_one, put_put, smaller_is_min}
+use Rattle.value.proofs.CountLaws.{smaller_is_min}
+use Rattle.memtable.proofs.WordLaws.{length_pack, put_one, put_put}
 
 pub room_there : (n used k v : ℕ) → has_room n used k v ≡ true → used + size k v ≤ n
 room_there n used k v e = leb-true (used + size k v) n (and_right_of _ (leb (used + size k v) n) e)

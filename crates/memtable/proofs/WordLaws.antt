@@ -157,6 +157,3 @@ put_put ws at next xs ys e h =
     ∙ ap (λ k. drop k ws) (let l = length-append xs ys in omega arith) in
     rw (w, take_at (take at ws ++ xs) (drop (at + length xs) ws) next b, d)
     (append_assoc (take at ws) xs (ys ++ drop (at + length (xs ++ ys)) ws) ∙ ap (λ l. take at ws ++ l) (sym (append_assoc xs ys (drop (at + length (xs ++ ys)) ws))))
-
-pub smaller_is_min : (a b : ℕ) → min a b ≡ smaller a b
-smaller_is_min a b = grind (arith, nat_tests)

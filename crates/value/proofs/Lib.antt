@@ -13,3 +13,4 @@ pub mod NumberLaws
 pub mod EncodingLaws
 pub mod ListLaws
 pub mod PaddedLaws
+pub mod CountLaws

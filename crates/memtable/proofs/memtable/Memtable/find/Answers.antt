@@ -1,7 +1,7 @@
 use Rattle.std.proofs.Common.{ap, ◌∙◌, arith}
 use Rattle.std.specs.Bool.{then_some}
 use Rattle.memtable.proofs.StepLaws.{found_none, found_by}
-use Rattle.memtable.proofs.WordLaws.{smaller_is_min}
+use Rattle.value.proofs.CountLaws.{smaller_is_min}
 use Rattle.memtable.proofs.memtable.Memtable.find.Goals as goal
 
 pub returns-then-i-min : goal.returns-then-i-min

@@ -2,7 +2,7 @@ use Rattle.std.proofs.Common.{◌∙◌, ap, arith, sym}
 use Rattle.memtable.specs.Loops.{bisect}
 use Rattle.memtable.specs.Memtable.{seek_place, ahead_at}
 use Rattle.memtable.proofs.LoopLaws.{bisect_low, bisect_high, bisect_done}
-use Rattle.memtable.proofs.WordLaws.{smaller_is_min}
+use Rattle.value.proofs.CountLaws.{smaller_is_min}
 use Rattle.memtable.proofs.memtable.Memtable.seek.Goals as goal
 
 pub search-preserved-then-is_ahead : goal.search-preserved-then-is_ahead
