@@ -3,7 +3,9 @@ use Rattle.std.proofs.Common.{◌≡◌, ℕ, zero, suc, ◌+◌, ◌-◌, ◌<�
 use Rattle.std.proofs.lemmas.Bool.{cases_lt}
 use Rattle.std.proofs.lemmas.List.{drop_more, set_at, take_all, take_at, drop_at, drop_all, length-take-le, length-drop, take_more, get_or-take, get_or_past, get_or_append_left, get_or-append_right}
 use Rattle.value.specs.Numbers.{bytes_of}
+use Rattle.value.specs.Padded.{padded}
 use Rattle.value.proofs.NumberLaws.{length_bytes_of}
+use Rattle.value.proofs.PaddedLaws.{padded_front}
 use Rattle.table.specs.Sum.{page_sum, sealed_page}
 use Rattle.table.specs.Stream.{payload, sealed, filled}
 use Rattle.table.proofs.SumLaws.{sum_front}
@@ -38,13 +40,18 @@ pub filled_other : (bs page : List ℕ) → (length page ≡ 512 → ⊥) → pa
 unfolding filled
 filled_other bs page n = rw (ne_eqb (length page) 512 n) refl
 
-pub filled_page : (bs page now sealed_now : List ℕ) (i : ℕ) → length page ≡ 512 → now ≡ take i (payload bs) ++ drop i page → i ≡ 504 → sealed_now ≡ sealed_page now → sealed_now ≡ filled bs page
+pub payload_padded : (bs : List ℕ) → padded 504 bs ≡ payload bs
+unfolding payload
+payload_padded bs = padded_front 504 504 bs (omega arith)
+
+pub filled_page : (bs page row sealed_now : List ℕ) → length page ≡ 512 → row ≡ payload bs → sealed_now ≡ sealed_page (row ++ drop 504 page) → sealed_now ≡ filled bs page
 unfolding filled sealed sealed_page
-filled_page bs page now sealed_now i l w e s =
+filled_page bs page row sealed_now l e s =
     let P = payload bs in
     let Z = drop 504 page in
+    let now = row ++ Z in
     let lp = length_payload bs in
-    let n : now ≡ P ++ Z = w ∙ ap (λ k. take k P ++ drop k page) e ∙ ap (λ x. x ++ Z) (take_all 504 P (omega arith)) in
+    let n : now ≡ P ++ Z = ap (λ x. x ++ Z) e in
     let len : 512 ≤ length now = omega (arith, ap length n, length-append P Z, length-drop 504 page) in
     let sum : page_sum now ≡ page_sum P = ap page_sum n ∙ sum_front P Z lp in
     let front : take 504 now ≡ P = ap (take 504) n ∙ take_at P Z 504 lp in

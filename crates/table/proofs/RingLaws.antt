@@ -1,5 +1,5 @@
 -- A ring of four payloads: the bytes that it holds one by one, and what one payload more leaves of it.
-use Rattle.std.proofs.Common.{◌≡◌, ℕ, zero, suc, ◌+◌, ◌-◌, ◌*◌, ◌/◌, ◌%◌, ◌<◌, ◌≤◌, min, true, List, ◌∷◌, ◌++◌, length, get_or, take, drop, sym, refl, ap, ◌∙◌, ⊎_elim, append_assoc, arith, length-append, lt-ltb, le-leb}
+use Rattle.std.proofs.Common.{◌≡◌, ℕ, zero, suc, ◌+◌, ◌-◌, ◌*◌, ◌/◌, ◌%◌, ◌<◌, ◌≤◌, true, List, ◌∷◌, ◌++◌, length, get_or, take, drop, sym, refl, ap, ◌∙◌, ⊎_elim, append_assoc, arith, length-append, lt-ltb, le-leb}
 use Rattle.std.proofs.lemmas.List.{take_at, drop_at, drop-drop, get_or_default, get_or-drop, get_or-take, length-take-le, length-drop, same_lists}
 use Rattle.std.proofs.lemmas.Bool.{cases_lt}
 use Rattle.value.specs.Versions.{every}
@@ -8,9 +8,8 @@ use Rattle.value.proofs.NumberLaws.{byte_there}
 use Rattle.table.specs.Device.{Page, page_at}
 use Rattle.table.specs.Sizes.{page_count}
 use Rattle.table.specs.Stream.{payload, payloads, Holds}
-use Rattle.table.specs.Load.{placed}
-use Rattle.table.specs.Cursor.{ringed, block_with, OfBytes}
-use Rattle.table.specs.declared.lookup.Entry.{Entry}
+use Rattle.table.specs.Load.{placed_at, placed}
+use Rattle.table.specs.Cursor.{ringed, OfBytes}
 use Rattle.table.proofs.StreamLaws.{length_payload, span_front, span_take, span_read}
 use Rattle.table.proofs.FillLaws.{payload_byte}
 use Rattle.table.proofs.LoadLaws.{one_payload}
@@ -44,17 +43,10 @@ unfolding ringed every
 ringed_bytes b zero ring = refl
 ringed_bytes b (suc n) ring = rw (lt-ltb (get_or ring (b % 2016) 0 % 256) 256 (omega arith)) (ringed_bytes (suc b) n ring)
 
--- a block that is laid over a row with room for it is at its front
-pub block_front : (e : Entry) (ring block : List ℕ) → e.len ≤ length block → take e.len (block_with e ring block) ≡ ringed e.begin e.len ring
-block_front e ring block h =
-    let n : min e.len (length block) ≡ e.len = omega arith in
-    ap (λ k. take e.len (ringed e.begin k ring ++ drop k block)) n
-    ∙ take_at (ringed e.begin e.len ring) (drop e.len block) e.len (length_ringed e.begin e.len ring)
-
 -- one payload more: it is in its place, and the others are in theirs
 module _ (s : ℕ) (p ring : List ℕ) (few : s < 4) (long : length ring ≡ 2016) where
   placed_is : placed s p ring ≡ take (504 * s) ring ++ (payload p ++ drop (504 * s + 504) ring)
-  unfolding placed
+  unfolding placed_at
   placed_is =
       rw (lt-ltb s 4 few, le-leb 2016 (length ring) (omega arith), length_payload p, drop-drop 504 (504 * s) ring) refl
 

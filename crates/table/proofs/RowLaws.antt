@@ -28,6 +28,10 @@ number_octets at ws =
     let a = rw z at (here 0 (omega arith)) in
     omega (arith, a, here 1 (omega arith), here 2 (omega arith), here 3 (omega arith), number_4 bs, ap number (take_all 4 bs (omega (arith, length_octets 4 (drop at ws)))))
 
+pub number_of_octets : (at : ℕ) (ws from bs : List ℕ) → from ≡ drop at ws → bs ≡ octets 4 from → number (take 4 bs) ≡ number (octets 4 (drop at ws))
+number_of_octets at ws from bs e f =
+    ap (λ l. number (take 4 l)) f ∙ ap number (take_all 4 (octets 4 from) (omega (arith, length_octets 4 from))) ∙ ap (λ l. number (octets 4 l)) e
+
 pub octets_small : (ws : List ℕ) → number (octets 4 ws) < 4294967296
 octets_small ws = omega (arith, number_octets 0 ws)
 

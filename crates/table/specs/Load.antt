@@ -1,5 +1,6 @@
 -- Reading a span of a stream a page at a time.
 --   wanted l           the page that is wanted next, if one is
+--   placed_at n xs row the row with 504 numbers behind those that came before them: at most four times, in a row of 2,016 or more
 --   placed n p row     the row with a page's payload behind those that came before it: at most four, in a row of 2,016 bytes or more
 --   took l             a page more has come
 use Rattle.std.specs.Prelude.{◌≡◌, ℕ, ◌+◌, ◌*◌, ◌<◌, ◌≤◌, ◌&&◌, List, length, take, Some, None, Option, nat_le, nat_lt}
@@ -14,8 +15,11 @@ use Rattle.table.specs.declared.load.Load.{Load}
 abbrev pub wanted : Load → Option ℕ
 wanted l = pick (nat_lt l.got l.span.pages) (Some (wrap (l.span.page + l.got))) None
 
-unfoldable pub placed : ℕ → List ℕ → List ℕ → List ℕ
-placed got p row = pick (nat_lt got 4 && nat_le 2016 (length row)) (put_at (504 * got) (payload p) row) row
+unfoldable pub placed_at : {A : Type 0} → ℕ → List A → List A → List A
+placed_at got xs row = pick (nat_lt got 4 && nat_le 2016 (length row)) (put_at (504 * got) xs row) row
+
+abbrev pub placed : ℕ → List ℕ → List ℕ → List ℕ
+placed got p row = placed_at got (payload p) row
 
 abbrev pub took : Load → Load
 took l = record { span = l.span; got = wrap (l.got + 1) }

@@ -3,8 +3,7 @@ ghost use Rattle.std.specs.Prelude.{◌≡◌, None};
 ghost use Rattle.table.specs.Reading.{block_bound, head_key, first_in, next_in, wanted_at, found_in};
 ghost use Rattle.value.specs.Encoding.{end_of};
 
-use std::cmp::Ordering;
-use value::{Place, key_of, order, parse, part_of, read_u64};
+use value::{Place, byte, key_of, parse, part_of, read_u64};
 
 // The moment of the version before the block, if that has the same key as its first; else 2^64 - 1.
 pub fn bound(block: &[u8]) -> u64
@@ -24,32 +23,20 @@ pub fn first(block: &[u8]) -> Option<Place>
 pub fn head_key(block: &[u8]) -> &[u8]
     ensures { result.now ≡ head_key block.now }
 {
-    let len = if block.len() > 8 {
-        block[8] as usize
-    } else {
-        0
-    };
-    part_of(block, 23, len)
+    part_of(block, 23, usize::from(byte(block, 8)))
 }
 
 // Where the version behind another lies.
 pub fn next(block: &[u8], place: Place) -> Option<Place>
     ensures { result ≡ next_in block.now place }
 {
-    let Some(end) = place.value_at.checked_add(place.value_len) else {
-        return None;
-    };
-    parse(block, end)
+    parse(block, place.value_at.checked_add(place.value_len)?)
 }
 
 fn is_wanted(block: &[u8], place: Place, key: &[u8], moment: u64) -> bool
     ensures { result ≡ wanted_at block.now key.now moment place }
 {
-    match order(key_of(block, place), key) {
-        Ordering::Equal => place.moment < moment,
-        Ordering::Less => false,
-        Ordering::Greater => false,
-    }
+    key_of(block, place) == key && place.moment < moment
 }
 
 // Where the first version of the key with a moment below this one lies.

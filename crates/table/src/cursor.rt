@@ -4,7 +4,8 @@ ghost use Rattle.std.specs.Prelude.{◌≡◌, min, length};
 ghost use Rattle.table.specs.Cursor.{new_cursor, listed_entry, wanted, took_positions, list_with, took_data, ring_with, block_with, head_place, advanced};
 
 use crate::lookup::{Entry, Extent};
-use crate::row::{copy_payload, octet, place_payload, read_number};
+use crate::page::PAYLOAD;
+use crate::row::{octet, payload_words, place_payload, read_number};
 use value::{Place, parse};
 
 #[derive(Clone, Copy)]
@@ -75,7 +76,7 @@ impl Cursor {
             return Want::Positions(extent.start.wrapping_add(self.listed));
         }
         let entry = self.entry(list);
-        if self.read < (entry.begin + entry.len + 503) / 504 {
+        if self.read < (entry.begin + entry.len).div_ceil(504) {
             return Want::Data(extent.data_at.wrapping_add(self.read));
         }
         Want::Head
@@ -86,14 +87,12 @@ impl Cursor {
         ensures state { result ≡ took_positions self }
         ensures list { list.new ≡ list_with page.now list.old }
     {
-        if list.len() == 504 {
-            copy_payload(page, list);
+        if list.len() == PAYLOAD {
+            list.copy_from_slice(&payload_words(page));
         }
         Cursor {
-            block: self.block,
-            at: self.at,
             listed: self.listed.wrapping_add(1),
-            read: self.read,
+            ..self
         }
     }
 
@@ -104,10 +103,8 @@ impl Cursor {
     {
         place_payload(self.read % 4, page, ring);
         Cursor {
-            block: self.block,
-            at: self.at,
-            listed: self.listed,
             read: self.read.wrapping_add(1),
+            ..self
         }
     }
 
@@ -127,15 +124,9 @@ impl Cursor {
             return Cursor {
                 block: self.block.wrapping_add(1),
                 at: 8,
-                listed: self.listed,
-                read: self.read,
+                ..self
             };
         }
-        Cursor {
-            block: self.block,
-            at: end,
-            listed: self.listed,
-            read: self.read,
-        }
+        Cursor { at: end, ..self }
     }
 }

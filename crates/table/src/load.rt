@@ -1,10 +1,10 @@
 // Reading a span of a stream a page at a time: which page is wanted next, and where its payload goes.
-ghost use Rattle.std.specs.Prelude.{◌≡◌, length};
-ghost use Rattle.table.specs.Load.{wanted, placed, took};
-ghost use Rattle.table.specs.Stream.{payload as payload_of};
+ghost use Rattle.std.specs.Prelude.{◌≡◌};
+ghost use Rattle.table.specs.Load.{wanted, placed_at, placed, took};
 
+use crate::page::PAYLOAD;
 use crate::span::Span;
-use value::byte;
+use value::padded;
 
 // A span being read, and how many of its pages have come.
 #[derive(Clone, Copy)]
@@ -13,28 +13,15 @@ pub struct Load {
     pub got: u64,
 }
 
-// A page's payload over a row of 504 bytes.
-fn copy_payload(page: &[u8], row: &mut [u8])
-    requires { length row.old ≡ 504 }
-    ensures { row.new ≡ payload_of page.now }
+// A payload goes to its place in a row, of bytes or of words.
+pub(crate) fn place<T: Copy>(got: u64, payload: &[T; PAYLOAD], row: &mut [T])
+    ensures { row.new ≡ placed_at got payload.now row.old }
 {
-    for i in 0..504usize {
-        row[i] = byte(page, i);
-    }
-}
-
-// A page's payload goes to its place in the row.
-fn place_payload(got: u64, page: &[u8], row: &mut [u8])
-    ensures { row.new ≡ placed got page.now row.old }
-{
-    if got >= 4 {
+    if got >= 4 || row.len() < 4 * PAYLOAD {
         return;
     }
-    if row.len() < 2016 {
-        return;
-    }
-    let at = got as usize * 504;
-    copy_payload(page, &mut row[at..at + 504]);
+    let at = got as usize * PAYLOAD;
+    row[at..at + PAYLOAD].copy_from_slice(payload);
 }
 
 impl Load {
@@ -54,10 +41,10 @@ impl Load {
         ensures state { result ≡ took self }
         ensures row { row.new ≡ placed self.got page.now row.old }
     {
-        place_payload(self.got, page, row);
+        place(self.got, &padded(page), row);
         Load {
-            span: self.span,
             got: self.got.wrapping_add(1),
+            ..self
         }
     }
 }

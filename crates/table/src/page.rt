@@ -3,18 +3,15 @@ ghost use Rattle.std.specs.Prelude.{◌≡◌, take};
 ghost use Rattle.table.specs.Stream.{filled};
 
 use crate::sum::seal;
-use value::byte;
+use value::{padded, part_of};
 
-const PAYLOAD: usize = 504;
+pub(crate) const PAYLOAD: usize = 504;
 
 // A page's payload, a part of the lent page; of a shorter row all of it.
 pub fn payload(page: &[u8]) -> &[u8]
     ensures { result.now ≡ take 504 page.now }
 {
-    if page.len() < PAYLOAD {
-        return page;
-    }
-    &page[0..PAYLOAD]
+    part_of(page, 0, PAYLOAD)
 }
 
 // Fills a page of 512 bytes with a payload, zeros behind it, and the sum; a row of another length stays as it is.
@@ -24,8 +21,6 @@ pub fn fill(bytes: &[u8], page: &mut [u8])
     if page.len() != 512 {
         return;
     }
-    for i in 0..PAYLOAD {
-        page[i] = byte(bytes, i);
-    }
+    page[..PAYLOAD].copy_from_slice(&padded::<PAYLOAD>(bytes));
     seal(page);
 }

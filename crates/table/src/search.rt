@@ -40,12 +40,12 @@ impl Search {
         if ahead {
             Search {
                 low: middle.saturating_add(1).min(self.high),
-                high: self.high,
+                ..self
             }
         } else {
             Search {
-                low: self.low,
                 high: middle,
+                ..self
             }
         }
     }

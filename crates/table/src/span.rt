@@ -20,7 +20,7 @@ pub fn span_at(first: u64, at: u64, len: u64) -> Span
     let skip = at % 504;
     Span {
         page: first.wrapping_add(at / 504),
-        pages: (skip.saturating_add(len)).saturating_add(503) / 504,
+        pages: skip.saturating_add(len).saturating_add(503) / 504,
         skip,
         len,
     }

@@ -1,8 +1,8 @@
 -- Versions in bytes: what was encoded is parsed.
-use Rattle.std.proofs.Common.{◌≡◌, ℕ, ◌+◌, ◌/◌, ◌%◌, ◌^◌, ◌<◌, ◌≤◌, Bool, true, false, not, eqb, List, [], ◌∷◌, ◌++◌, length, take, drop, Some, None, sym, refl, ap, ◌∙◌, ⊎_elim, arith}
+use Rattle.std.proofs.Common.{◌≡◌, ℕ, ◌+◌, ◌/◌, ◌%◌, ◌^◌, ◌<◌, ◌≤◌, Bool, true, false, not, eqb, List, ◌++◌, length, take, drop, Some, None, sym, refl, ap, ◌∙◌, ⊎_elim, arith}
 use Rattle.std.proofs.lemmas.List.{append_assoc, drop-drop, take_at, drop_at, length-append, length-drop, length-take-le}
 use Rattle.std.proofs.lemmas.Bool.{cases_Bool, and_parts, and_from, leb-true, ltb-true, eqb-true, le-leb, lt-leb, lt-ltb, eq-eqb, ne_eqb}
-use Rattle.value.specs.Versions.{pick, or, every, added_up, weight, Version, version}
+use Rattle.value.specs.Versions.{pick, or, every, Version, version}
 use Rattle.value.specs.Numbers.{number, bytes_of, part, put_at, is_byte, all_bytes}
 use Rattle.value.specs.Encoding.{limits, in_limits, fits, mark, head, encoding, encoded_length, has_room, key_length, moment_in, mark_in, kind_in, gone_in, value_length, arrival_in, size_in, stands, version_in, place_in, parsed, version_at, end_of, place_of, Lies, ParseReadsEncode}
 use Rattle.value.specs.declared.version.Place.{Place}
@@ -25,12 +25,6 @@ limits_parts k m g n e =
     let r = and_parts _ _ q.1 in
     let s = and_parts _ _ r.1 in
     record { some = ltb-true _ _ p.0; short = ltb-true _ _ q.0; early = ltb-true _ _ r.0; small = leb-true _ _ s.0; empty = s.1 }
-
-pub limits_true : (k m : ℕ) (g : Bool) (n : ℕ) → Limits k m g n → limits k m g n ≡ true
-unfolding limits
-limits_true k m g n l =
-    and_from _ _ (lt-ltb _ _ l.some)
-    (and_from _ _ (lt-ltb _ _ l.short) (and_from _ _ (lt-ltb _ _ l.early) (and_from _ _ (le-leb _ _ l.small) l.empty)))
 
 -- the test of what bytes begin with, and what it says
 pub record Stands (bs : List ℕ) : Type 0 where
@@ -147,11 +141,6 @@ all_put v h out e =
 pub length_encoding : (v : Version) → length (encoding v) ≡ encoded_length v
 unfolding bytes_of head encoding
 length_encoding v = omega (arith, length-append v.key v.value)
-
--- it takes 49 bytes less than the version weighs
-pub encoding_weighs : (v : Version) → length (encoding v) + 49 ≡ weight (v ∷ [])
-unfolding added_up
-encoding_weighs v = omega (arith, length_encoding v)
 
 all_bytes_head : (k m : ℕ) (g : Bool) (n : ℕ) → k < 256 → all_bytes (head k m g n) ≡ true
 unfolding head every

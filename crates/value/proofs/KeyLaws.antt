@@ -1,5 +1,5 @@
 -- The order of keys: same decides equality, before is a strict total order.
-use Rattle.std.proofs.Common.{◌≡◌, ℕ, ◌<◌, Bool, true, false, ◌&&◌, eqb, ltb, ◌⊎◌, List, [], ◌∷◌, sym, refl, ◌∙◌, ap₂, inl, inr, arith, ltb-true, le-ltb, lt-ltb, eq-eqb, ne_eqb, eqb-true}
+use Rattle.std.proofs.Common.{◌≡◌, ℕ, ◌<◌, Bool, true, false, ◌&&◌, eqb, ltb, ◌⊎◌, List, [], ◌∷◌, sym, refl, ◌∙◌, ap₂, inl, inr, arith, ltb-true, le-ltb, lt-ltb, eq-eqb, ne_eqb, eqb-true, bytes_eq, ap, ◌==◌}
 use Rattle.value.specs.Versions.{or, same, before}
 use Rattle.value.proofs.TestLaws.{clash, and_left_of, and_right_of}
 use Rattle.std.proofs.lemmas.Bool.{cases_order}
@@ -147,3 +147,14 @@ le_le a b c p q = go (before c a) refl
     go : (t : Bool) → before c a ≡ t → t ≡ false
     go false e = refl
     go true e = clash (before c b) (lt_le c a b e p) q
+
+-- the library's test of two rows of bytes
+same_bytes : (xs ys : List ℕ) → bytes_eq xs ys ≡ same xs ys
+unfolding same
+same_bytes [] [] = refl
+same_bytes [] (y ∷ ys) = refl
+same_bytes (x ∷ xs) [] = refl
+same_bytes (x ∷ xs) (y ∷ ys) = ap (λ b. x == y && b) (same_bytes xs ys)
+
+pub same_told : (xs ks ys : List ℕ) (b : Bool) → xs ≡ ks → b ≡ bytes_eq xs ys → same ks ys ≡ b
+same_told xs ks ys b e f = sym (f ∙ same_bytes xs ys ∙ ap (λ l. same l ys) e)

@@ -14,3 +14,4 @@ pub mod EncodingLaws
 pub mod ListLaws
 pub mod PaddedLaws
 pub mod CountLaws
+pub mod FromFnLaws

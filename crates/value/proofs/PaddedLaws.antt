@@ -53,3 +53,10 @@ number_front n at row from bs e f =
     ∙ ap number (take_all n (padded n from) (omega (arith, length_padded n from)))
     ∙ number_padded n from
     ∙ ap (λ l. number (take n l)) e
+
+pub padded_front : (n m : ℕ) (xs : List ℕ) → n ≤ m → padded n xs ≡ take n (xs ++ replicate m 0)
+unfolding padded
+padded_front zero m xs h = refl
+padded_front (suc n) zero xs h = absurd (omega arith)
+padded_front (suc n) (suc m) [] h = ap (λ l. 0 ∷ l) (padded_front n m [] (omega arith))
+padded_front (suc n) (suc m) (x ∷ xs) h = ap (λ l. x ∷ l) (padded_front n (suc m) xs (omega arith))

@@ -22,7 +22,7 @@ part at n row = take n (drop at row)
 abbrev pub number_at : ℕ → ℕ → List ℕ → ℕ
 number_at k at row = number (part at k row)
 
-abbrev pub put_at : ℕ → List ℕ → List ℕ → List ℕ
+abbrev pub put_at : {A : Type 0} → ℕ → List A → List A → List A
 put_at at ys row = take at row ++ (ys ++ drop (length ys) (drop at row))
 
 abbrev pub is_byte : ℕ → Bool

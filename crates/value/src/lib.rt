@@ -14,5 +14,5 @@ pub use laws::{
     numbers_read_back, parse_reads_encode, push_sorts, range_right, sort_orders, sort_weighs,
     stream_forgets, stream_shows, streams_agree, streams_differ, twice_once, write_seen,
 };
-pub use number::{byte, padded, part_of, read_u16, read_u32, read_u64};
+pub use number::{byte, padded, part_of, read_u16, read_u32, read_u64, rest};
 pub use version::{Place, Version, encode, key_of, order_versions, parse, value_of};

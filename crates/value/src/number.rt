@@ -4,7 +4,7 @@ ghost use Rattle.value.specs.Numbers.{number_at, part, put_at};
 ghost use Rattle.value.specs.Padded.{padded as padded_to};
 
 // The row from a place on.
-pub fn rest(row: &[u8], at: usize) -> &[u8]
+pub fn rest<T>(row: &[T], at: usize) -> &[T]
     ensures is { result.now ≡ drop at row.now }
     ensures len { length result.now ≡ length row.now - at }
 {

@@ -98,30 +98,16 @@ pub fn value_of(row: &[u8], place: Place) -> &[u8]
 }
 
 // The fifteen bytes before a version's key.
-fn head_of(key_len: usize, moment: u64, gone: bool, value_len: usize) -> [u8; 15]
+fn head_of(key_len: usize, moment: u64, gone: bool, value_len: usize) -> [u8; HEAD]
     requires { (key_len < 256) × (value_len ≤ 1024) }
     ensures { result ≡ head key_len moment gone value_len }
 {
     let kind: u16 = if gone { 2048 } else { 0 };
-    let m = moment.to_le_bytes();
-    let k = (kind + value_len as u16).to_le_bytes();
-    [
-        key_len as u8,
-        m[0],
-        m[1],
-        m[2],
-        m[3],
-        m[4],
-        m[5],
-        m[6],
-        m[7],
-        k[0],
-        k[1],
-        0,
-        0,
-        0,
-        0,
-    ]
+    let mut head = [0; HEAD];
+    head[0] = key_len as u8;
+    head[1..9].copy_from_slice(&moment.to_le_bytes());
+    head[9..11].copy_from_slice(&(kind + value_len as u16).to_le_bytes());
+    head
 }
 
 // Writes a version at the front of `out`, and says how many bytes it took; outside the limits, or without room, nothing.

@@ -1,17 +1,10 @@
-use Rattle.std.proofs.Common.{arith}
-use Rattle.std.proofs.lemmas.Bool.Decides.{nat_tests}
-use Rattle.value.specs.Order.{OrderSays}
-use Rattle.value.proofs.KeyLaws.{before_apart}
+use Rattle.std.proofs.Common.{true, false, ◌∙◌, refl}
+use Rattle.value.specs.Encoding.{key_at}
+use Rattle.value.proofs.KeyLaws.{same_told}
 use Rattle.table.proofs.block.is_wanted.Goals as goal
 
-pub returns-in-Equal : goal.returns-in-Equal
-unfolding OrderSays
-returns-in-Equal c = grind (arith, nat_tests, c.in-Equal.ensures, c.key_of.ensures)
+pub returns-then-eq : goal.returns-then-eq
+returns-then-eq c = rw (same_told _ (key_at c.args.block.now c.args.place) c.args.key.now true c.key_of.ensures c.if-eq.ensures) refl
 
-pub returns-in-Less : goal.returns-in-Less
-unfolding OrderSays
-returns-in-Less c = grind (arith, nat_tests, c.in-Less.ensures, c.key_of.ensures, before_apart)
-
-pub returns-in-Greater : goal.returns-in-Greater
-unfolding OrderSays
-returns-in-Greater c = grind (arith, nat_tests, c.in-Greater.ensures, c.key_of.ensures)
+pub returns-else-eq : goal.returns-else-eq
+returns-else-eq c = c.if-eq.false ∙ rw (same_told _ (key_at c.args.block.now c.args.place) c.args.key.now false c.key_of.ensures c.if-eq.ensures) refl

@@ -8,9 +8,3 @@ overflow_add-entry c =
     let at : ℕ = 8 * (c.args.self.block % 63) in
     let list = c.args.list.now in
     omega (arith, ap (λ (e : Entry). e.begin) c.entry-entry.ensures, ap (λ (e : Entry). e.len) c.entry-entry.ensures, octets_small (drop at list), octets_small (drop (at + 4) list))
-
-pub overflow_add-entry-2 : goal.overflow_add-entry-2
-overflow_add-entry-2 c =
-    let at : ℕ = 8 * (c.args.self.block % 63) in
-    let list = c.args.list.now in
-    omega (arith, ap (λ (e : Entry). e.begin) c.entry-entry.ensures, ap (λ (e : Entry). e.len) c.entry-entry.ensures, octets_small (drop at list), octets_small (drop (at + 4) list))
