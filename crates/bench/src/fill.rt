@@ -1,6 +1,7 @@
 // A memtable with its two rows of words, filled in an order of keys that jumps about.
 use memtable::{ARENA_WORDS, INDEX_WORDS, Memtable, empty};
 use std::alloc::{AllocError, Global};
+use value::Version;
 
 #[derive(Drop)]
 pub struct Filled {
@@ -11,12 +12,8 @@ pub struct Filled {
 
 // The key of a number: its digits are mixed, so that keys do not come in order.
 fn key(i: u64) -> [u8; 16] {
-    let mixed = i.wrapping_mul(0x9e37_79b9_7f4a_7c15).to_be_bytes();
-    let plain = i.to_be_bytes();
-    let mut key = [0u8; 16];
-    key[0..8].copy_from_slice(&mixed);
-    key[8..16].copy_from_slice(&plain);
-    key
+    let mixed = i.wrapping_mul(0x9e37_79b9_7f4a_7c15);
+    (u128::from(mixed) << 64 | u128::from(i)).to_be_bytes()
 }
 
 impl Filled {
@@ -32,27 +29,29 @@ impl Filled {
 
     // Inserts n versions, each of a key of its own, at rising moments.
     pub fn fill(&mut self, n: u64) {
-        for i in 0..n {
-            let key = key(i);
+        for moment in 0..n {
+            let key = key(moment);
+            let version = Version {
+                key: &key,
+                moment,
+                gone: false,
+                value: &key,
+            };
             self.table = self
                 .table
-                .insert(&mut self.index, &mut self.arena, &key, i, false, &key);
+                .insert(&mut self.index, &mut self.arena, version);
         }
     }
 
     // How many of the n keys are found, as of the moment after the last.
-    pub fn find_all(&self, n: u64) -> u64 {
-        let mut found = 0u64;
-        for i in 0..n {
-            if self
-                .table
-                .find(&self.index, &self.arena, &key(i), n)
-                .is_some()
-            {
-                found = found.saturating_add(1);
-            }
-        }
-        found
+    pub fn find_all(&self, n: u64) -> usize {
+        (0..n)
+            .filter(|i| {
+                self.table
+                    .find(&self.index, &self.arena, &key(*i), n)
+                    .is_some()
+            })
+            .count()
     }
 
     pub fn versions(&self) -> u64 {

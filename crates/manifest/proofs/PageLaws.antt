@@ -3,6 +3,7 @@ use Rattle.std.proofs.Common.{◌≡◌, ℕ, zero, suc, ◌+◌, ◌*◌, ◌/�
 use native.Mathlib.Nat.{div-div-eq-div-mul}
 use Rattle.std.proofs.lemmas.List.{append_assoc, append-nil, drop_all, drop_at, drop-drop, drop_more, ext_get_or, length-append, length-drop, length-take-le, take_all, take_at, take_more}
 use Rattle.std.proofs.lemmas.Bool.{cases_lt}
+use Rattle.std.specs.Int.{from_bool}
 use Rattle.value.specs.Versions.{every}
 use Rattle.value.specs.Numbers.{number, bytes_of, put_at, is_byte, all_bytes}
 use Rattle.value.proofs.NumberLaws.{number_bytes_of, length_bytes_of, all_bytes_of, bytes_8}
@@ -88,6 +89,10 @@ half_back Second = refl
 flag_back : (b : Bool) → eqb (flag b) 1 ≡ b
 flag_back true = refl
 flag_back false = refl
+
+pub flag_is : (b : Bool) → from_bool b ≡ flag b
+flag_is true = refl
+flag_is false = refl
 
 half_small : (h : Half) → half_number h < 18446744073709551616
 half_small First = omega arith
@@ -246,11 +251,11 @@ page_written m i ws old row g h e l r =
     ap sealed_page (r ∙ (λ j. row_of (all j) ++ drop (8 * n j) old)) ∙ sealed_over (row_of (words_of m)) (drop 504 old) (length_list m) (omega (arith, length-drop 504 old))
 
 -- reading the words
-get_d_words : (n i k : ℕ) (p : List ℕ) → k < n → get_or (words_from i n p) k 0 ≡ word_at (i + k) p
+get_or_words : (n i k : ℕ) (p : List ℕ) → k < n → get_or (words_from i n p) k 0 ≡ word_at (i + k) p
 unfolding words_from
-get_d_words zero i k p h = absurd (omega arith)
-get_d_words (suc n) i zero p h = let e : i ≡ i + 0 = omega arith in ap (λ k. word_at k p) e
-get_d_words (suc n) i (suc k) p h = let e : suc i + k ≡ i + suc k = omega arith in get_d_words n (suc i) k p (omega arith) ∙ ap (λ k. word_at k p) e
+get_or_words zero i k p h = absurd (omega arith)
+get_or_words (suc n) i zero p h = let e : i ≡ i + 0 = omega arith in ap (λ k. word_at k p) e
+get_or_words (suc n) i (suc k) p h = let e : suc i + k ≡ i + suc k = omega arith in get_or_words n (suc i) k p (omega arith) ∙ ap (λ k. word_at k p) e
 
 length_words_from : (n i : ℕ) (p : List ℕ) → length (words_from i n p) ≡ n
 unfolding words_from
@@ -267,7 +272,7 @@ words_read i ws p l stop done rest =
     ext_get_or 0 ws (words_from 0 14 p) (l ∙ sym (length_words_from 14 0 p)) (λ k h. each k (cases_lt k i) stop h ∙ same k (omega arith))
   where
     same : (k : ℕ) → k < 14 → word_at k p ≡ get_or (words_from 0 14 p) k 0
-    same k h = let e : 0 + k ≡ k = omega arith in ap (λ j. word_at j p) (sym e) ∙ sym (get_d_words 14 0 k p h)
+    same k h = let e : 0 + k ≡ k = omega arith in ap (λ j. word_at j p) (sym e) ∙ sym (get_or_words 14 0 k p h)
 
     each : (k : ℕ) → (k < i) ⊎ (i ≤ k) → (14 ≤ i) ⊎ (length p ≤ 8 * i) → k < length ws → get_or ws k 0 ≡ word_at k p
     each k (inl h) s g = done k h

@@ -6,7 +6,7 @@ ghost use Rattle.manifest.specs.Commit.{found_in, later_of};
 use crate::fields::Manifest;
 use crate::page::{decode, word};
 
-// What a page said, and whether it was whole.
+// What a page said, and whether it was whole. What a torn page said counts too, where none is whole, so it is no Option.
 #[derive(Clone, Copy)]
 pub struct Found {
     pub whole: bool,

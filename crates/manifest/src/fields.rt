@@ -1,10 +1,33 @@
 // What a list of tables says.
+ghost use Rattle.std.specs.Prelude.{◌≡◌};
+ghost use Rattle.manifest.specs.Manifest.{half_of, half_number};
 
 // The pages behind the lists are two halves, of which one is in use.
-#[derive(Clone, Copy)]
+#[derive(Clone, Copy, Debug, PartialEq, Eq)]
 pub enum Half {
     First,
     Second,
+}
+
+// The half that a number in a page stands for: any number but 1 is the first.
+impl From<u64> for Half {
+    ghost from_gives = { λ n half. half ≡ half_of n };
+
+    fn from(n: u64) -> Half {
+        if n == 1 { Half::Second } else { Half::First }
+    }
+}
+
+// The number that stands for a half in a page.
+impl From<Half> for u64 {
+    ghost from_gives = { λ half n. n ≡ half_number half };
+
+    fn from(half: Half) -> u64 {
+        match half {
+            Half::First => 0,
+            Half::Second => 1,
+        }
+    }
 }
 
 // The number of pages, the half in use, and its first free page, counted from its beginning.
@@ -40,7 +63,7 @@ pub struct Table {
     pub latest: u64,
 }
 
-// The list with this commit number. It has room for one table: where there is none, all of it is 0.
+// The list with this commit number. A page counts its tables, and this list has room for one: where there is none, all of it is 0.
 #[derive(Clone, Copy)]
 pub struct Manifest {
     pub commit: u64,

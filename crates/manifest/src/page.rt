@@ -1,7 +1,7 @@
 // The list of tables on a page. specs/Manifest.antt has the layout.
 ghost use Rattle.std.specs.Prelude.{◌≡◌, ◌+◌, ◌*◌, ◌<◌, ◌≤◌, length};
 ghost use Rattle.value.specs.Numbers.{put_at, bytes_of};
-ghost use Rattle.manifest.specs.Manifest.{word_at, words_from, pair_of, half_of, half_number, flag, words_of, encoded, manifest_in};
+ghost use Rattle.manifest.specs.Manifest.{word_at, words_from, pair_of, words_of, encoded, manifest_in};
 
 use crate::fields::{Half, Layout, Manifest, Moments, Table, Weight};
 use table::seal;
@@ -18,27 +18,6 @@ fn pair(low: u64, high: u64) -> u64
     low % HALF_WORD + high % HALF_WORD * HALF_WORD
 }
 
-fn half_in(n: u64) -> Half
-    ensures { result ≡ half_of n }
-{
-    if n == 1 { Half::Second } else { Half::First }
-}
-
-fn number_of(half: Half) -> u64
-    ensures { result ≡ half_number half }
-{
-    match half {
-        Half::First => 0,
-        Half::Second => 1,
-    }
-}
-
-fn flag_of(b: bool) -> u64
-    ensures { result ≡ flag b }
-{
-    if b { 1 } else { 0 }
-}
-
 // The number in the eight bytes of a word; past the end bytes count as 0.
 pub fn word(page: &[u8], i: usize) -> u64
     requires { i < 64 }
@@ -52,6 +31,7 @@ fn words_in(page: &[u8]) -> [u64; 14]
     ensures { result ≡ words_from 0 14 page.now }
 {
     let mut words = [0u64; 14];
+    // Over what lies in a page, so it is left from inside, by its label; to leave it with a word lent by iter_mut would lose that word's value.
     'words: for i in 0..14usize {
         if 8 * i >= page.len() {
             break 'words;
@@ -70,7 +50,7 @@ pub fn decode(page: &[u8]) -> Manifest
         commit: words[0],
         layout: Layout {
             pages: words[2],
-            half: half_in(words[3]),
+            half: Half::from(words[3]),
             free: words[4],
         },
         moments: Moments {
@@ -109,12 +89,12 @@ impl Manifest {
         words[0] = self.commit;
         words[1] = FORMAT;
         words[2] = self.layout.pages;
-        words[3] = number_of(self.layout.half);
+        words[3] = u64::from(self.layout.half);
         words[4] = self.layout.free;
         words[5] = self.moments.last;
         words[6] = self.moments.low;
         words[7] = self.weight.all;
-        words[8] = flag_of(self.weight.exact);
+        words[8] = u64::from(self.weight.exact);
         words[9] = self.tables;
         words[10] = pair(self.table.start, self.table.data_at);
         words[11] = pair(self.table.size, self.table.blocks);
@@ -132,8 +112,8 @@ impl Manifest {
             return;
         }
         let words = self.words();
-        for i in 0..63usize {
-            write_word(page, i, words[i]);
+        for (i, word) in words.iter().enumerate() {
+            write_word(page, i, *word);
         }
         seal(page);
     }

@@ -24,11 +24,11 @@ unfolding each
 length_each f [] = refl
 length_each f (x ∷ xs) = ap suc (length_each f xs)
 
-pub getD_each : {A B : Type 0} (f : A → B) (xs : List A) (i : ℕ) (d : A) (e : B) → i < length xs → get_or (each f xs) i e ≡ f (get_or xs i d)
+pub get_or_each : {A B : Type 0} (f : A → B) (xs : List A) (i : ℕ) (d : A) (e : B) → i < length xs → get_or (each f xs) i e ≡ f (get_or xs i d)
 unfolding each
-getD_each f [] i d e h = absurd (omega arith)
-getD_each f (x ∷ xs) zero d e h = refl
-getD_each f (x ∷ xs) (suc i) d e h = getD_each f xs i d e (omega arith)
+get_or_each f [] i d e h = absurd (omega arith)
+get_or_each f (x ∷ xs) zero d e h = refl
+get_or_each f (x ∷ xs) (suc i) d e h = get_or_each f xs i d e (omega arith)
 
 -- WEIGHTS AND SIZES
 pub record Sized (vs : List Version) : Type 0 where
@@ -82,7 +82,7 @@ there index arena t vs h i l =
     let p : get_or (take t.versions index) i 0 ≡ get_or index i 0 = get_or-take t.versions index i 0 l in
     let m : i < length (take t.versions index) = omega (arith, c.all) in
     let n : (d : Version) → get_or (sort vs) i d ≡ version_at arena (get_or index i 0) =
-    λ d. ap (λ us. get_or us i d) (sym h.sorted) ∙ getD_each (version_at arena) (take t.versions index) i 0 d m ∙ ap (version_at arena) p in
+    λ d. ap (λ us. get_or us i d) (sym h.sorted) ∙ get_or_each (version_at arena) (take t.versions index) i 0 d m ∙ ap (version_at arena) p in
     let d : Version = version_at arena 0 in
     record {
       stands = subst (λ q. Stands (take t.used arena) q (version_at arena q)) p

@@ -1,55 +1,54 @@
 -- Loops, round by round: what is left to do gives what the whole gives.
-use Rattle.std.proofs.Common.{◌≡◌, ℕ, zero, suc, ◌+◌, ◌-◌, ◌^◌, ◌<◌, ◌≤◌, Bool, true, false, sym, refl, inl, inr, pow-suc, arith}
+use Rattle.std.proofs.Common.{◌≡◌, ℕ, zero, suc, ◌+◌, ◌-◌, ◌^◌, ◌<◌, ◌≤◌, Bool, true, false, sym, refl, ◌∙◌, inl, inr, pow-suc, arith}
 use Rattle.std.proofs.lemmas.Bool.{lt-ltb, le-ltb, cases_lt, cases_Bool, both_ways}
+use Rattle.std.proofs.lemmas.Bool.Decides.{nat_tests}
 use Rattle.std.specs.declared.cmp.Ordering.{Ordering}
-use Rattle.std.specs.declared.cmp.Ordering.TheVariants.{Less, Greater}
+use Rattle.std.specs.Ordering.{is_ne, nat_cmp}
 use Rattle.memtable.specs.Loops.{middle, bisect, compare}
 
-pub compare_less : (f g : ℕ → ℕ) (n k : ℕ) (tie : Ordering) (a b : ℕ) → k < n → a ≡ f k → b ≡ g k → a < b → compare f g (n - k) k tie ≡ Less
+pub compare_apart : (f g : ℕ → ℕ) (n k : ℕ) (tie : Ordering) (a b : ℕ) (r : Ordering) → k < n → a ≡ f k → b ≡ g k → r ≡ nat_cmp a b → true ≡ is_ne r → r ≡ compare f g (n - k) k tie
 unfolding compare
-compare_less f g n k tie a b h p q l =
+compare_apart f g n k tie a b r h p q e t =
     let d : n - k ≡ suc (n - (k + 1)) = omega arith in
-    rw (d, lt-ltb (f k) (g k) (omega arith)) refl
+    rw (d, ← p, ← q) (grind (arith, nat_tests))
 
-pub compare_more : (f g : ℕ → ℕ) (n k : ℕ) (tie : Ordering) (a b : ℕ) → k < n → a ≡ f k → b ≡ g k → b < a → compare f g (n - k) k tie ≡ Greater
+pub compare_same : (f g : ℕ → ℕ) (n k : ℕ) (tie : Ordering) (a b : ℕ) (r : Ordering) → k < n → a ≡ f k → b ≡ g k → r ≡ nat_cmp a b → false ≡ is_ne r →
+    compare f g (n - (k + 1)) (k + 1) tie ≡ compare f g (n - k) k tie
 unfolding compare
-compare_more f g n k tie a b h p q l =
+compare_same f g n k tie a b r h p q e t =
     let d : n - k ≡ suc (n - (k + 1)) = omega arith in
-    rw (d, le-ltb (f k) (g k) (omega arith), lt-ltb (g k) (f k) (omega arith)) refl
-
-pub compare_same : (f g : ℕ → ℕ) (n k : ℕ) (tie : Ordering) (a b : ℕ) → k < n → a ≡ f k → b ≡ g k → b ≤ a → a ≤ b →
-    compare f g (n - k) k tie ≡ compare f g (n - (k + 1)) (k + 1) tie
-unfolding compare
-compare_same f g n k tie a b h p q l m =
-    let d : n - k ≡ suc (n - (k + 1)) = omega arith in
-    rw (d, le-ltb (f k) (g k) (omega arith), le-ltb (g k) (f k) (omega arith)) refl
+    rw (d, ← p, ← q) (grind (arith, nat_tests))
 
 pub compare_end : (f g : ℕ → ℕ) (n k : ℕ) (tie : Ordering) → n ≤ k → compare f g (n - k) k tie ≡ tie
 unfolding compare
 compare_end f g n k tie h = let d : n - k ≡ zero = omega arith in rw d refl
 
-pub bisect_low : (p : ℕ → Bool) (n k low high : ℕ) → k < n → low < high → true ≡ p (middle low high) →
-    bisect p (n - k) low high ≡ bisect p (n - (k + 1)) (middle low high + 1) high
+-- a round more changes nothing where the rounds suffice
+bisect_steady : (p : ℕ → Bool) (n low high : ℕ) → high - low < 2 ^ n → bisect p n low high ≡ bisect p (suc n) low high
 unfolding bisect
-bisect_low p n k low high h l e =
-    let f : n - k ≡ suc (n - (k + 1)) = omega arith in
-    rw (f, lt-ltb low high l, sym e) refl
+bisect_steady p zero low high h = rw (le-ltb low high (omega arith)) refl
+bisect_steady p (suc n) low high h =
+    let e = pow-suc 2 n in
+    rw (bisect_steady p n (middle low high + 1) high (omega arith), bisect_steady p n low (middle low high) (omega arith)) refl
 
-pub bisect_high : (p : ℕ → Bool) (n k low high : ℕ) → k < n → low < high → false ≡ p (middle low high) →
-    bisect p (n - k) low high ≡ bisect p (n - (k + 1)) low (middle low high)
+pub bisect_low : (p : ℕ → Bool) (n low high : ℕ) → high - low < 2 ^ suc n → low < high → true ≡ p (middle low high) →
+    bisect p (suc n) (middle low high + 1) high ≡ bisect p (suc n) low high
 unfolding bisect
-bisect_high p n k low high h l e =
-    let f : n - k ≡ suc (n - (k + 1)) = omega arith in
-    rw (f, lt-ltb low high l, sym e) refl
+bisect_low p n low high h l e =
+    let f = pow-suc 2 n in
+    sym (bisect_steady p n (middle low high + 1) high (omega arith)) ∙ rw (lt-ltb low high l, ← e) refl
+
+pub bisect_high : (p : ℕ → Bool) (n low high : ℕ) → high - low < 2 ^ suc n → low < high → false ≡ p (middle low high) →
+    bisect p (suc n) low (middle low high) ≡ bisect p (suc n) low high
+unfolding bisect
+bisect_high p n low high h l e =
+    let f = pow-suc 2 n in
+    sym (bisect_steady p n low (middle low high) (omega arith)) ∙ rw (lt-ltb low high l, ← e) refl
 
 pub bisect_done : (p : ℕ → Bool) (n low high : ℕ) → high ≤ low → bisect p n low high ≡ low
 unfolding bisect
 bisect_done p zero low high l = refl
 bisect_done p (suc n) low high l = rw (le-ltb low high l) refl
-
-pub bisect_end : (p : ℕ → Bool) (n k low high : ℕ) → n ≤ k → bisect p (n - k) low high ≡ low
-unfolding bisect
-bisect_end p n k low high h = let e : n - k ≡ zero = omega arith in rw e refl
 
 -- where the test holds up to a point and no further, the search ends at that point
 pub record Parts (p : ℕ → Bool) (n r : ℕ) : Type 0 where

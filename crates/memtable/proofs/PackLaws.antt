@@ -8,7 +8,7 @@ use Rattle.std.specs.declared.cmp.Ordering.TheVariants.{Less, Greater}
 use Rattle.value.proofs.TestLaws.{and_left_of, and_right_of}
 use Rattle.memtable.specs.Words.{bytes, octet, word, words, packed_word, byte, byte_behind, row}
 use Rattle.memtable.specs.Loops.{compare}
-use Rattle.memtable.proofs.WordLaws.{length_row, getD_row}
+use Rattle.memtable.proofs.WordLaws.{length_row, get_or_row}
 
 -- byte k of eight packed into a word
 byte_word : (a b c d e f g h k : ℕ) → a < 256 → b < 256 → c < 256 → d < 256 → e < 256 → f < 256 → g < 256 → h < 256 → k < 8 →
@@ -60,7 +60,7 @@ row_packed ws bs p s n h l f =
     ext_get_or 0 (row ws p s n) bs (length_row ws p s n ∙ sym l) (λ i m.
     let q : i < n = omega (arith, length_row ws p s n) in
     let e : 8 * (i / 8) + i % 8 ≡ i = omega arith in
-    getD_row ws p s n i q
+    get_or_row ws p s n i q
     ∙ ap (λ w. byte w (i % 8)) (f (i / 8) (omega arith))
     ∙ byte_of_word bs (8 * (i / 8)) (i % 8) (omega arith)
     ∙ ap (octet bs) e

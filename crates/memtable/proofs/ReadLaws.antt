@@ -9,7 +9,8 @@ use Rattle.memtable.specs.Words.{bytes, words, packed_word, pack}
 use Rattle.memtable.specs.Loops.{compare}
 use Rattle.memtable.specs.Arena.{moment_at, key_length, value_length, gone_at, key_at, value_at, version_at, wrap, measures, size, encoded, key_word, by_length, order_at}
 use Rattle.memtable.specs.Holds.{fits, Stands}
-use Rattle.memtable.proofs.WordLaws.{length_pack, getD_pack, smaller_left}
+use Rattle.value.proofs.CountLaws.{smaller_is_min}
+use Rattle.memtable.proofs.WordLaws.{length_pack, get_or_pack}
 use Rattle.memtable.proofs.PackLaws.{row_packed, compare_like}
 use Rattle.memtable.proofs.KeyOrderLaws.{ordered, words_order}
 
@@ -58,7 +59,7 @@ key_words v k h =
     let e : 2 + k ≡ suc (suc k) = omega arith in
     ap (λ j. get_or (encoded v) j 0) e
     ∙ get_or_append_left (pack v.key) (pack v.value) 0 k (omega (arith, length_pack v.key))
-    ∙ getD_pack v.key k h
+    ∙ get_or_pack v.key k h
 
 value_words : (v : Version) (k : ℕ) → k < words (length v.value) → get_or (encoded v) (2 + words (length v.key) + k) 0 ≡ packed_word v.value k
 unfolding encoded packed_word
@@ -66,7 +67,7 @@ value_words v k h =
     let e : 2 + words (length v.key) + k ≡ suc (suc (length (pack v.key) + k)) = omega (arith, length_pack v.key) in
     ap (λ j. get_or (encoded v) j 0) e
     ∙ get_or-append-add (pack v.key) (pack v.value) k 0
-    ∙ getD_pack v.value k h
+    ∙ get_or_pack v.value k h
 
 first_word : (v : Version) → get_or (encoded v) 0 0 ≡ wrap v.moment
 unfolding encoded
@@ -139,4 +140,4 @@ order_read arena u p v k f s b =
     ∙ words_order v.key k h.key_bytes b
   where
     smaller_words : (a c i : ℕ) → i < 0 + words (smaller a c) → i < words a
-    smaller_words a c i l = omega (arith, smaller_left a c)
+    smaller_words a c i l = omega (arith, smaller_is_min a c)

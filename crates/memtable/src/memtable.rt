@@ -5,8 +5,8 @@ ghost use Rattle.memtable.specs.Memtable.{none, accepts, Countable, one_more, af
 
 use crate::arena::{append, has_room, moment_at, order_at};
 use crate::index::{enter, place_at};
-use std::cmp::Ordering;
-use value::{Version, smaller_of};
+use crate::words::words_of;
+use value::Version;
 
 // All that is held weighs at most so much.
 pub const LIMIT: u64 = 1048576;
@@ -17,7 +17,7 @@ pub const INDEX_WORDS: u64 = 16384;
 pub const ARENA_WORDS: u64 = 131072;
 
 // How many versions there are, how many words of the arena they take, and what they weigh.
-#[derive(Clone, Copy)]
+#[derive(Clone, Copy, Default)]
 pub struct Memtable {
     pub versions: u64,
     pub used: u64,
@@ -28,11 +28,7 @@ pub struct Memtable {
 pub fn empty() -> Memtable
     ensures { result ≡ none }
 {
-    Memtable {
-        versions: 0,
-        used: 0,
-        weight: 0,
-    }
+    Memtable::default()
 }
 
 // Does a version come before a key at a moment: has it a lower key, or this key and this moment or a later one?
@@ -40,11 +36,9 @@ fn is_ahead(index: &[u64], arena: &[u64], key: &[u8], moment: u64, i: u64) -> bo
     ensures { result ≡ ahead_at index.now arena.now key.now moment i }
 {
     let place = place_at(index, i);
-    match order_at(arena, place, key) {
-        Ordering::Less => true,
-        Ordering::Equal => moment <= moment_at(arena, place),
-        Ordering::Greater => false,
-    }
+    order_at(arena, place, key)
+        .then(moment.cmp(&moment_at(arena, place)))
+        .is_le()
 }
 
 // A version more, where all counts are small.
@@ -54,33 +48,31 @@ fn one_more(t: Memtable, k: u64, v: u64) -> Memtable
 {
     Memtable {
         versions: t.versions + 1,
-        used: t.used + (2 + ((k + 7) / 8 + (v + 7) / 8)),
+        used: t.used + (2 + words_of(k) + words_of(v)),
         weight: t.weight + (64 + k + v),
     }
 }
 
+// Index and arena are lent anew with each call, and each of append, enter and place_at takes but one of them: a struct of the two would only be taken apart again.
 impl Memtable {
     // Has it room for a version with a key of k bytes and a value of v, in so many words of index and arena?
     pub fn accepts(self, index: u64, arena: u64, k: u64, v: u64) -> bool
         ensures { result ≡ accepts self index arena k v }
     {
-        if !has_room(arena, self.used, k, v) {
-            return false;
-        }
-        if self.versions >= index || self.weight > LIMIT {
-            return false;
-        }
-        self.weight + (64 + k + v) <= LIMIT
+        has_room(arena, self.used, k, v)
+            && self.versions < index
+            && 64 + k + v <= LIMIT.saturating_sub(self.weight)
     }
 
     // The memtable with such a version more; the same if it has no room.
     pub fn with_one(self, index: u64, arena: u64, k: u64, v: u64) -> Memtable
         ensures { result ≡ after_one self index arena k v }
     {
-        if !self.accepts(index, arena, k, v) {
-            return self;
+        if self.accepts(index, arena, k, v) {
+            one_more(self, k, v)
+        } else {
+            self
         }
-        one_more(self, k, v)
     }
 
     // The first place of the index at or behind a key at a moment, in the order of a table; the number of versions if there is none.
@@ -88,12 +80,10 @@ impl Memtable {
         ensures is { result ≡ seek_place self index.now arena.now key.now moment }
         ensures within { result ≤ entries self index.now }
     {
+        // The library's partition_point promises nothing of words that are in no order; this answers for any.
         let mut low = 0;
-        let mut high = smaller_of(self.versions, index.len() as u64);
-        'search: for round in 0..64u64 {
-            if low >= high {
-                break 'search;
-            }
+        let mut high = self.versions.min(index.len() as u64);
+        'search: while low < high {
             let middle = low + (high - low) / 2;
             if is_ahead(index, arena, key, moment, middle) {
                 low = middle + 1;
@@ -109,31 +99,22 @@ impl Memtable {
         ensures { result ≡ found self index.now arena.now key.now moment }
     {
         let i = self.seek(index, arena, key, moment);
-        if i >= smaller_of(self.versions, index.len() as u64) {
+        if i >= self.versions.min(index.len() as u64) {
             return None;
         }
         let place = place_at(index, i);
-        match order_at(arena, place, key) {
-            Ordering::Less => None,
-            Ordering::Equal => Some(place),
-            Ordering::Greater => None,
-        }
+        order_at(arena, place, key).is_eq().then_some(place)
     }
 
     // Was this key written at this moment?
     pub fn written_at(self, index: &[u64], arena: &[u64], key: &[u8], moment: u64) -> bool
         ensures { result ≡ written_at self index.now arena.now key.now moment }
     {
-        let next = self.seek(index, arena, key, moment);
-        if next == 0 {
+        let Some(last) = self.seek(index, arena, key, moment).checked_sub(1) else {
             return false;
-        }
-        let place = place_at(index, next - 1);
-        match order_at(arena, place, key) {
-            Ordering::Less => false,
-            Ordering::Equal => moment_at(arena, place) == moment,
-            Ordering::Greater => false,
-        }
+        };
+        let place = place_at(index, last);
+        order_at(arena, place, key).is_eq() && moment_at(arena, place) == moment
     }
 
     // Takes a version in, the newest of its key. If there is no room for it or its key or value is not allowed, nothing is changed and the same memtable comes back.

@@ -2,49 +2,41 @@
 ghost use Rattle.std.specs.Prelude.{◌≡◌, ◌+◌, ◌*◌, ◌%◌, ◌<◌, ◌≤◌, length, slice_index};
 ghost use Rattle.memtable.specs.Words.{octet, word, words, pack, byte, byte_behind, row, laid, put_row};
 
-use value::smaller_of;
+use value::{padded, part_of};
 
 // The word at a place.
 pub fn peek(ws: &[u64], at: u64) -> u64
     ensures { result ≡ slice_index ws.now at }
 {
-    let i = at as usize;
-    if i < ws.len() { ws[i] } else { 0 }
+    ws.get(at as usize).copied().unwrap_or(0)
 }
 
 // The word that lies k words behind a place, however large the sum.
 pub fn peek_behind(ws: &[u64], place: u64, k: u64) -> u64
     ensures { result ≡ slice_index ws.now (place + k) }
 {
-    let n = ws.len() as u64;
-    if place < n && k < n - place {
-        ws[(place + k) as usize]
-    } else {
-        0
-    }
+    peek(ws, place.saturating_add(k))
 }
 
-// Byte i of a row, 0 past its end.
-fn octet_at(bs: &[u8], i: u64) -> u64
-    ensures { result ≡ octet bs.now i }
+// How many words so many bytes take.
+pub fn words_of(n: u64) -> u64
+    ensures { result ≡ words n }
 {
-    let i = i as usize;
-    if i < bs.len() { bs[i] as u64 } else { 0 }
+    n.div_ceil(8)
+}
+
+// The first eight bytes of a row as one word; past its end they count as 0.
+fn first_word(bs: &[u8]) -> u64
+    ensures { result ≡ word bs.now 0 }
+{
+    u64::from_be_bytes(padded(bs))
 }
 
 // The eight bytes from k on as one word.
 pub fn word_at(bs: &[u8], k: u64) -> u64
-    requires { k ≤ 4096 }
     ensures { result ≡ word bs.now k }
 {
-    octet_at(bs, k) * 72057594037927936
-        + octet_at(bs, k + 1) * 281474976710656
-        + octet_at(bs, k + 2) * 1099511627776
-        + octet_at(bs, k + 3) * 4294967296
-        + octet_at(bs, k + 4) * 16777216
-        + octet_at(bs, k + 5) * 65536
-        + octet_at(bs, k + 6) * 256
-        + octet_at(bs, k + 7)
+    first_word(part_of(bs, k as usize, 8))
 }
 
 // Byte k of a word.
@@ -52,7 +44,7 @@ fn byte_of(w: u64, k: u64) -> u8
     requires { k < 8 }
     ensures { result ≡ byte w k }
 {
-    ((w >> (56 - 8 * k)) % 256) as u8
+    w.to_be_bytes()[k as usize]
 }
 
 // Byte i of what is packed s words behind a place.
@@ -68,9 +60,8 @@ pub fn put_bytes(ws: &mut [u64], at: u64, bs: &[u8])
     requires { (length bs.now ≤ 1024) × (at + words (length bs.now) ≤ length ws.old) }
     ensures { ws.new ≡ put_row ws.old at (pack bs.now) }
 {
-    let n = (bs.len() as u64 + 7) / 8;
-    for k in 0..n {
-        ws[(at + k) as usize] = word_at(bs, 8 * k);
+    for (k, chunk) in bs.chunks(8).enumerate() {
+        ws[at as usize + k] = first_word(chunk);
     }
 }
 
@@ -79,8 +70,8 @@ pub fn unpack_into(ws: &[u64], place: u64, s: u64, n: u64, out: &mut [u8])
     requires { s ≤ 4096 }
     ensures { out.new ≡ laid (row ws.now place s n) out.old }
 {
-    let m = smaller_of(n, out.len() as u64);
-    for i in 0..m {
-        out[i as usize] = byte_behind(ws, place, s, i);
+    let m = n.min(out.len() as u64) as usize;
+    for (i, b) in out[..m].iter_mut().enumerate() {
+        *b = byte_behind(ws, place, s, i as u64);
     }
 }

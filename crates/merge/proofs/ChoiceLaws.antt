@@ -1,25 +1,31 @@
 -- The choice between two runs, repeated, merges them.
-use Rattle.std.proofs.Common.{◌≡◌, ℕ, zero, suc, ◌+◌, ◌≤◌, Bool, true, false, List, [], ◌∷◌, length, Some, sym, refl, ap, ◌∙◌, arith}
+use Rattle.std.proofs.Common.{◌≡◌, ℕ, zero, suc, ◌+◌, ◌≤◌, Bool, true, false, List, [], ◌∷◌, length, Bor, Option, Some, sym, refl, ap, ◌∙◌, arith}
 use Rattle.value.specs.Versions.{pick, before, Version}
 use Rattle.value.specs.Order.{OrderSays}
 use Rattle.value.specs.Sorted.{weave, merge, sort}
+use Rattle.std.specs.declared.cmp.Ordering.{Ordering}
 use Rattle.std.specs.declared.cmp.Ordering.TheVariants.{Less, Equal, Greater}
+use Rattle.std.specs.Ordering.{is_gt}
 use Rattle.value.proofs.KeyLaws.{before_irrefl, before_not}
 use Rattle.value.proofs.OrderLaws.{before_said, same_said, behind_said}
 use Rattle.value.proofs.SortLaws.{sort_weighs}
 use Rattle.value.proofs.MergeLaws.{merge_nil, merge_right}
-use Rattle.merge.specs.Choice.{chosen, merged_by, ChoiceMerges}
+use Rattle.merge.specs.Choice.{lent, chosen, merged_by, ChoiceMerges}
 use Rattle.merge.specs.declared.choice.Next.TheVariants.{Later, Earlier}
 
 -- what the order of two keys chooses
-pub later_before : (x y : List ℕ) → OrderSays x y Less → Later ≡ chosen (Some x) (Some y)
-later_before x y o = rw (before_not x y (before_said x y o)) refl
+behind_is : (x y : List ℕ) (o : Ordering) → OrderSays x y o → is_gt o ≡ before y x
+behind_is x y Less e = sym (before_not x y (before_said x y e))
+behind_is x y Equal e = sym (rw (same_said x y e) (before_irrefl y))
+behind_is x y Greater e = sym (behind_said x y e)
 
-pub later_same : (x y : List ℕ) → OrderSays x y Equal → Later ≡ chosen (Some x) (Some y)
-later_same x y o = let e : before y x ≡ false = rw (same_said x y o) (before_irrefl y) in rw e refl
+pub earlier_by : (later earlier : Option (Bor (List ℕ))) (x y : Bor (List ℕ)) (o : Ordering) → later ≡ Some x → earlier ≡ Some y → OrderSays x.now y.now o → true ≡ is_gt o →
+    Earlier ≡ chosen (lent (λ k. k.now) later) (lent (λ k. k.now) earlier)
+earlier_by later earlier x y o e f h t = rw (e, f, ← behind_is x.now y.now o h, ← t) refl
 
-pub earlier_behind : (x y : List ℕ) → OrderSays x y Greater → Earlier ≡ chosen (Some x) (Some y)
-earlier_behind x y o = rw (behind_said x y o) refl
+pub later_by : (later earlier : Option (Bor (List ℕ))) (x y : Bor (List ℕ)) (o : Ordering) → later ≡ Some x → earlier ≡ Some y → OrderSays x.now y.now o → false ≡ is_gt o →
+    Later ≡ chosen (lent (λ k. k.now) later) (lent (λ k. k.now) earlier)
+later_by later earlier x y o e f h t = rw (e, f, ← behind_is x.now y.now o h, ← t) refl
 
 -- two heads: the choice is a test of their keys
 later_first : (x y : Version) → chosen (Some x.key) (Some y.key) ≡ Later → before y.key x.key ≡ false

@@ -2,11 +2,10 @@
 ghost use Rattle.std.specs.Prelude.{◌≡◌};
 ghost use Rattle.merge.specs.Choice.{lent, chosen};
 
-use std::cmp::Ordering;
 use value::order;
 
-// The run that the next version comes from.
-#[derive(Clone, Copy)]
+// The run that the next version comes from. The end is one of three equal cases of one choice, which every caller matches together; an Option would set it apart.
+#[derive(Clone, Copy, Debug, PartialEq, Eq)]
 pub enum Next {
     Later,
     Earlier,
@@ -19,12 +18,8 @@ pub fn choose(later: Option<&[u8]>, earlier: Option<&[u8]>) -> Next
 {
     match (later, earlier) {
         (None, None) => Next::End,
-        (Some(_), None) => Next::Later,
+        (Some(one), Some(two)) if order(one, two).is_gt() => Next::Earlier,
+        (Some(_), _) => Next::Later,
         (None, Some(_)) => Next::Earlier,
-        (Some(one), Some(two)) => match order(one, two) {
-            Ordering::Less => Next::Later,
-            Ordering::Equal => Next::Later,
-            Ordering::Greater => Next::Earlier,
-        },
     }
 }

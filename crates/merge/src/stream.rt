@@ -1,12 +1,11 @@
 // A walk over a sorted run: what it knows of the versions behind it, and which of those ahead it shows or keeps.
 ghost use Rattle.std.specs.Prelude.{◌≡◌, false, []};
-ghost use Rattle.merge.specs.Stream.{held, has_passed, newest_at, shown_at, kept_at, passed_at};
+ghost use Rattle.merge.specs.Stream.{held, last_key, has_passed, newest_at, shown_at, kept_at, passed_at};
 
-use std::cmp::Ordering;
-use value::order;
+use value::padded;
 
 // What a walk carries: the key that it passed last, of a key over 255 bytes those 255 that it begins with, and whether one of that key below the
-// moment passed.
+// moment passed. It is kept in memory that does not grow, so the key lies in a row of fixed length; its length is a byte, which never passes the row's.
 #[derive(Clone, Copy)]
 pub struct Passed {
     pub key: [u8; 255],
@@ -26,28 +25,25 @@ impl Passed {
     pub fn of(key: &[u8], below: bool) -> Passed
         ensures { result ≡ held key.now below }
     {
-        let len = if key.len() < 255 { key.len() } else { 255 };
-        let mut row = [0; 255];
-        row[..len].copy_from_slice(&key[..len]);
         Passed {
-            key: row,
-            len: len as u8,
+            key: padded(key),
+            len: key.len().min(255) as u8,
             below,
         }
+    }
+
+    // The key that passed last, as far as it is held.
+    pub fn last_key(&self) -> &[u8]
+        ensures { result.now ≡ last_key self.now }
+    {
+        &self.key[..self.len as usize]
     }
 
     // Has one of this key below the moment passed?
     pub fn has(self, key: &[u8]) -> bool
         ensures { result ≡ has_passed self key.now }
     {
-        if !self.below {
-            return false;
-        }
-        match order(&self.key[..self.len as usize], key) {
-            Ordering::Less => false,
-            Ordering::Equal => true,
-            Ordering::Greater => false,
-        }
+        self.below && self.last_key() == key
     }
 
     // The newest of its key below the moment, an erasure too: it is below, and none of its key passed.

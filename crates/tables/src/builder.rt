@@ -15,15 +15,14 @@ const MOST_DUE: u32 = 16;
 const NO_BOUND: u64 = 0xffff_ffff_ffff_ffff;
 
 #[derive(Drop)]
-pub struct Builder {
+pub struct Builder<'a> {
     writer: Writer,
     // What is in hand, on the page of data and on the page of positions.
     hand: Vec<u8>,
     page: Vec<u8>,
     entries: Vec<u8>,
-    // Key and moment of the last version; before the first the key is empty, as no version's is.
-    last_key: Vec<u8>,
-    last_moment: u64,
+    // The version before the next, if there was one.
+    last: Option<&'a Version>,
     // The pages that were put.
     data: Vec<u8>,
     positions: Vec<u8>,
@@ -38,30 +37,29 @@ fn put_page(pages: &mut Vec<u8>, bytes: &mut Vec<u8>) -> anyhow::Result<()> {
     Ok(())
 }
 
-impl Builder {
-    pub fn new(heap: Global) -> Builder {
+impl<'a> Builder<'a> {
+    pub fn new(heap: Global) -> Builder<'a> {
         Builder {
             writer: Writer::new(),
             hand: Vec::new(heap),
             page: Vec::new(heap),
             entries: Vec::new(heap),
-            last_key: Vec::new(heap),
-            last_moment: 0,
+            last: None,
             data: Vec::new(heap),
             positions: Vec::new(heap),
         }
     }
 
     // Hands over the next version, in the order of a table.
-    pub fn give(&mut self, version: &Version) -> anyhow::Result<()> {
+    pub fn give(&mut self, version: &'a Version) -> anyhow::Result<()> {
         let mut out = [0u8; LONGEST];
-        let Some(size) = encode(
-            version.key.as_slice(),
-            version.moment,
-            version.gone,
-            version.value.as_slice(),
-            &mut out,
-        ) else {
+        let said = value::Version {
+            key: &version.key,
+            moment: version.moment,
+            gone: version.gone,
+            value: &version.value,
+        };
+        let Some(size) = encode(said, &mut out) else {
             return Err(anyhow!("a version is outside the limits"));
         };
         self.hand.clear();
@@ -72,24 +70,15 @@ impl Builder {
         }
         self.hand.extend_from_slice(part_of(&out, 0, size))?;
         self.writer = self.writer.give(size as u64);
-        self.remember(version)?;
+        self.last = Some(version);
         self.work_off()
     }
 
     // The bound of a block that begins with this version.
     fn bound_of(&self, version: &Version) -> u64 {
-        if version.has_key(self.last_key.as_slice()) {
-            self.last_moment
-        } else {
-            NO_BOUND
-        }
-    }
-
-    fn remember(&mut self, version: &Version) -> anyhow::Result<()> {
-        self.last_key.clear();
-        self.last_key.extend_from_slice(version.key.as_slice())?;
-        self.last_moment = version.moment;
-        Ok(())
+        self.last
+            .filter(|last| last.key == version.key)
+            .map_or(NO_BOUND, |last| last.moment)
     }
 
     // The entry of the block being written, if there is one, goes to the page of positions.
@@ -98,10 +87,10 @@ impl Builder {
         if block.count == 0 {
             return Ok(());
         }
-        let begin = block.begin.to_le_bytes();
-        let used = block.used.to_le_bytes();
-        self.entries.extend_from_slice(part_of(&begin, 0, 4))?;
-        self.entries.extend_from_slice(part_of(&used, 0, 4))?;
+        self.entries
+            .extend_from_slice(&block.begin.to_le_bytes()[..4])?;
+        self.entries
+            .extend_from_slice(&block.used.to_le_bytes()[..4])?;
         Ok(())
     }
 
@@ -136,27 +125,24 @@ impl Builder {
     // Ends the last block, and puts the last pages.
     pub fn close(mut self) -> anyhow::Result<Table> {
         self.end_block()?;
-        self.writer = self.writer.close();
-        if !self.page.is_empty() {
-            put_page(&mut self.data, &mut self.page)?;
-        }
-        if !self.entries.is_empty() {
-            put_page(&mut self.positions, &mut self.entries)?;
-        }
         let Builder {
             writer,
-            data,
-            positions,
-            hand: _,
-            page: _,
-            entries: _,
-            last_key: _,
-            last_moment: _,
+            mut page,
+            mut entries,
+            mut data,
+            mut positions,
+            ..
         } = self;
+        if !page.is_empty() {
+            put_page(&mut data, &mut page)?;
+        }
+        if !entries.is_empty() {
+            put_page(&mut positions, &mut entries)?;
+        }
         Ok(Table {
             data,
             positions,
-            blocks: writer.block.count,
+            blocks: writer.close().block.count,
         })
     }
 }

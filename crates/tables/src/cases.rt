@@ -18,33 +18,28 @@ pub fn empty(heap: Global) -> Vec<Version> {
 }
 
 pub fn one(heap: Global) -> Result<Vec<Version>, AllocError> {
-    let mut versions = Vec::new(heap);
-    versions.push(Version::new(heap, b"gauge", 7, b"3.21")?)?;
-    Ok(versions)
+    Ok(vec![in heap; Version::new(heap, b"gauge", 7, b"3.21")?]?)
 }
 
 pub fn largest(heap: Global) -> Result<Vec<Version>, AllocError> {
-    let mut versions = Vec::new(heap);
-    versions.push(Version::new(heap, &BYTES[0..255], 7, &BYTES)?)?;
-    Ok(versions)
+    Ok(vec![in heap; Version::new(heap, &BYTES[0..255], 7, &BYTES)?]?)
 }
 
 // The smallest versions, so that as many as may be are in a block.
 pub fn one_key(heap: Global) -> Result<Vec<Version>, AllocError> {
-    let mut versions = Vec::new(heap);
-    for i in 0..3000u64 {
-        versions.push(Version::new(heap, b"k", 2999 - i, b"")?)?;
-    }
-    Ok(versions)
+    (0..3000u64)
+        .rev()
+        .map(|moment| Version::new(heap, b"k", moment, b""))
+        .try_collect(heap)
 }
 
-// Each key begins the next.
+// Each key begins the next, so one key grows in a loop.
 pub fn beginnings(heap: Global) -> Result<Vec<Version>, AllocError> {
     let mut versions = Vec::new(heap);
     let mut key = Vec::new(heap);
     for i in 0..40u8 {
         key.push(97 + i)?;
-        versions.push(Version::new(heap, key.as_slice(), i as u64, &BYTES[0..100])?)?;
+        versions.push(Version::new(heap, key.as_slice(), u64::from(i), &BYTES[0..100])?)?;
     }
     Ok(versions)
 }
@@ -58,19 +53,15 @@ fn long_key(last: u8) -> [u8; 255] {
 
 // Keys that differ in the last byte.
 pub fn last_bytes(heap: Global) -> Result<Vec<Version>, AllocError> {
-    let mut versions = Vec::new(heap);
-    for i in 0..200u8 {
-        versions.push(Version::new(heap, &long_key(i), i as u64, b"value")?)?;
-    }
-    Ok(versions)
+    (0..200u8)
+        .map(|i| Version::new(heap, &long_key(i), u64::from(i), b"value"))
+        .try_collect(heap)
 }
 
 // The version that a key got in a round, some of them erasures.
 fn in_round(heap: Global, key: u32, round: u32) -> Result<Version, AllocError> {
     let name = key.wrapping_mul(2).to_be_bytes();
-    let moment = (round as u64)
-        .saturating_mul(KEYS as u64)
-        .saturating_add(key as u64);
+    let moment = u64::from(round) * u64::from(KEYS) + u64::from(key);
     if moment % 7 == 3 {
         return Version::erasure(heap, &name, moment);
     }
@@ -79,9 +70,7 @@ fn in_round(heap: Global, key: u32, round: u32) -> Result<Version, AllocError> {
 
 // Every key is written once a round; in the table its newest version comes first.
 pub fn many(heap: Global) -> Result<Vec<Version>, AllocError> {
-    let mut versions = Vec::new(heap);
-    for i in 0..KEYS * ROUNDS {
-        versions.push(in_round(heap, i / ROUNDS, ROUNDS - 1 - i % ROUNDS)?)?;
-    }
-    Ok(versions)
+    (0..KEYS * ROUNDS)
+        .map(|i| in_round(heap, i / ROUNDS, ROUNDS - 1 - i % ROUNDS))
+        .try_collect(heap)
 }

@@ -8,16 +8,15 @@ mod tally;
 mod version;
 
 use builder::build;
-use tally::{OTHERS, take_tally};
+use tally::take_tally;
 use version::Version;
 
 // How many pages a table of these versions takes at most.
 fn most_pages(versions: &[Version]) -> u64 {
-    let mut weight = 0u64;
-    for version in versions {
-        weight = weight.saturating_add(version.weight());
-    }
-    (weight / 512).saturating_add(3)
+    let weight = versions
+        .iter()
+        .fold(0u64, |sum, version| sum.saturating_add(version.weight()));
+    weight / 512 + 3
 }
 
 // Writes the table of these versions, asks it, and prints what came of it.
@@ -30,22 +29,9 @@ fn show(rt: &HostRuntime, name: &str, given: Vec<Version>) -> anyhow::Result<()>
     let blocks = table.blocks;
     let data = table.data_pages();
     let positions = table.position_pages();
-    print!(rt;
-        "{name}: {n} versions, {blocks} blocks, {data} + {positions} pages of at most {most}, "
+    println!(rt;
+        "{name}: {n} versions, {blocks} blocks, {data} + {positions} pages of at most {most}, {tally}"
     )?;
-    show_tally(rt, n, tally)
-}
-
-fn show_tally(rt: &HostRuntime, n: usize, tally: tally::Tally) -> anyhow::Result<()> {
-    let walked = tally.walked;
-    let found = tally.found;
-    let others = tally.others;
-    let wrong = tally.wrong;
-    print!(rt; "{walked} in order, {found} of {n} found, {others} of {OTHERS} others found")?;
-    if wrong > 0 {
-        print!(rt; ", {wrong} WRONG")?;
-    }
-    println!(rt; "")?;
     Ok(())
 }
 

@@ -2,6 +2,7 @@
 use crate::version::Version;
 use anyhow::anyhow;
 use std::alloc::Global;
+use std::iter;
 use table::{Search, bound, find, first, head_key, is_ahead, next, payload, sound, span_at};
 use value::{part_of, read_u32};
 
@@ -9,7 +10,7 @@ use value::{part_of, read_u32};
 const HEAD: u64 = 278;
 
 // A block has at most 94 versions: each takes 16 bytes at least.
-const MOST_IN_BLOCK: u32 = 94;
+const MOST_IN_BLOCK: usize = 94;
 
 // The pages of data and of positions, each 512 bytes, and how many blocks there are.
 #[derive(Drop)]
@@ -35,6 +36,7 @@ fn load(heap: Global, pages: &[u8], at: u64, len: u64) -> anyhow::Result<Vec<u8>
     let span = span_at(0, at, len);
     let mut skip = span.skip as usize;
     let mut bytes = Vec::new(heap);
+    // By number: a page past the end is empty, and so not sound.
     for i in 0..span.pages {
         let page = page_at(pages, span.page.saturating_add(i));
         if !sound(page) {
@@ -76,6 +78,7 @@ impl Table {
             low: 0,
             high: self.blocks,
         };
+        // Over what lies on pages, so it is left from inside, by its label.
         'looks: for _ in 0..64u32 {
             if search.low >= search.high {
                 break 'looks;
@@ -107,13 +110,11 @@ impl Table {
         versions: &mut Vec<Version>,
     ) -> anyhow::Result<()> {
         let bytes = self.front(heap, block, u64::MAX)?;
-        let mut at = first(bytes.as_slice());
-        for _ in 0..MOST_IN_BLOCK {
-            let Some(place) = at else {
-                return Ok(());
-            };
-            versions.push(Version::at(heap, bytes.as_slice(), place)?)?;
-            at = next(bytes.as_slice(), place);
+        let block = bytes.as_slice();
+        for place in iter::successors(first(block), |place| next(block, *place)).take(
+            MOST_IN_BLOCK,
+        ) {
+            versions.push(Version::at(heap, block, place)?)?;
         }
         Ok(())
     }

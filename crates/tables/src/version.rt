@@ -2,7 +2,7 @@
 use std::alloc::{AllocError, Global};
 use value::{Place, key_of, value_of};
 
-#[derive(Drop)]
+#[derive(PartialEq, Eq, Drop)]
 pub struct Version {
     pub key: Vec<u8>,
     pub moment: u64,
@@ -43,16 +43,5 @@ impl Version {
         (self.key.len() as u64)
             .saturating_add(self.value.len() as u64)
             .saturating_add(64)
-    }
-
-    pub fn has_key(&self, key: &[u8]) -> bool {
-        self.key.as_slice() == key
-    }
-
-    pub fn is_as(&self, other: &Version) -> bool {
-        self.has_key(&other.key)
-            && self.moment == other.moment
-            && self.gone == other.gone
-            && self.value.as_slice() == other.value.as_slice()
     }
 }

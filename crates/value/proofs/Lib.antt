@@ -13,4 +13,5 @@ pub mod NumberLaws
 pub mod EncodingLaws
 pub mod ListLaws
 pub mod PaddedLaws
+pub mod CountLaws
 pub mod FromFnLaws

@@ -3,4 +3,4 @@ use Rattle.manifest.proofs.page.decode.Goals as goal
 
 pub returns : goal.returns
 unfolding words_from manifest_in
-returns c = simp (c.half_in.ensures, c.words_in-words.ensures)
+returns c = simp (c.from.ensures, c.words_in-words.ensures)

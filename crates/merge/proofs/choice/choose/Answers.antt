@@ -1,14 +1,9 @@
-use Rattle.merge.proofs.ChoiceLaws.{later_before, later_same, earlier_behind}
+use Rattle.std.proofs.Common.{rules}
+use Rattle.merge.proofs.ChoiceLaws.{earlier_by, later_by}
 use Rattle.merge.proofs.choice.choose.Goals as goal
 
-pub returns-in-Less : goal.returns-in-Less
-returns-in-Less c =
-    simp (c.in-Some-Some.is-0, c.in-Some-Some.is-1) (later_before c.in-Some-Some.one.now c.in-Some-Some.two.now c.in-Less.ensures)
+pub returns-in-Some-Some : goal.returns-in-Some-Some
+returns-in-Some-Some c = search (rules, earlier_by)
 
-pub returns-in-Equal : goal.returns-in-Equal
-returns-in-Equal c =
-    simp (c.in-Some-Some.is-0, c.in-Some-Some.is-1) (later_same c.in-Some-Some.one.now c.in-Some-Some.two.now c.in-Equal.ensures)
-
-pub returns-in-Greater : goal.returns-in-Greater
-returns-in-Greater c =
-    simp (c.in-Some-Some.is-0, c.in-Some-Some.is-1) (earlier_behind c.in-Some-Some.one.now c.in-Some-Some.two.now c.in-Greater.ensures)
+pub returns-in-Some-default : goal.returns-in-Some-default
+returns-in-Some-default c = search (rules, later_by)

@@ -4,4 +4,4 @@ use Rattle.manifest.proofs.fields.Manifest.encode.Given as goal
 
 -- the words so far are written
 abbrev pub invariant-loop-i : goal.invariant-loop-i
-invariant-loop-i l = l.page ≡ row_of (take l.i l.words) ++ drop (8 * l.i) l.initial.page
+invariant-loop-i l = l.page ≡ row_of (take l.i l.word-items) ++ drop (8 * l.i) l.initial.page

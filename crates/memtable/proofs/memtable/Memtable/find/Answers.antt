@@ -1,24 +1,13 @@
-use Rattle.std.proofs.Common.{arith}
-use Rattle.std.specs.declared.cmp.Ordering.TheVariants.{Less, Equal, Greater}
+use Rattle.std.proofs.Common.{ap, ◌∙◌, arith}
+use Rattle.std.specs.Bool.{then_some}
 use Rattle.memtable.proofs.StepLaws.{found_none, found_by}
+use Rattle.value.proofs.CountLaws.{smaller_is_min}
 use Rattle.memtable.proofs.memtable.Memtable.find.Goals as goal
 
-pub returns-then-i-smaller_of : goal.returns-then-i-smaller_of
-returns-then-i-smaller_of c =
-    found_none c.args.self c.args.index.now c.args.arena.now c.args.key.now c.args.moment c.seek-i.result
-    c.seek-i.ensures.is (omega arith)
+pub returns-then-i-min : goal.returns-then-i-min
+returns-then-i-min c = found_none _ _ _ _ _ _ c.seek-i.ensures.is (omega (arith, smaller_is_min))
 
-pub returns-in-Less : goal.returns-in-Less
-returns-in-Less c =
-    found_by c.args.self c.args.index.now c.args.arena.now c.args.key.now c.args.moment c.seek-i.result c.place_at-place.result Less
-    c.seek-i.ensures.is (omega arith) c.place_at-place.ensures c.in-Less.ensures
-
-pub returns-in-Equal : goal.returns-in-Equal
-returns-in-Equal c =
-    found_by c.args.self c.args.index.now c.args.arena.now c.args.key.now c.args.moment c.seek-i.result c.place_at-place.result Equal
-    c.seek-i.ensures.is (omega arith) c.place_at-place.ensures c.in-Equal.ensures
-
-pub returns-in-Greater : goal.returns-in-Greater
-returns-in-Greater c =
-    found_by c.args.self c.args.index.now c.args.arena.now c.args.key.now c.args.moment c.seek-i.result c.place_at-place.result Greater
-    c.seek-i.ensures.is (omega arith) c.place_at-place.ensures c.in-Greater.ensures
+pub returns : goal.returns
+returns c =
+    c.then_some.ensures ∙ ap (λ b. then_some b c.place_at-place.result) c.is_eq.ensures
+    ∙ found_by _ _ _ _ _ _ _ _ c.seek-i.ensures.is (omega (arith, smaller_is_min)) c.place_at-place.ensures c.order_at.ensures

@@ -1,15 +1,18 @@
-use Rattle.std.proofs.Common.{rules}
-use Rattle.memtable.specs.Memtable.{seek_place}
-use Rattle.memtable.proofs.LoopLaws.{bisect_low, bisect_high, bisect_done, bisect_end}
+use Rattle.std.proofs.Common.{◌∙◌, ap, arith, sym}
+use Rattle.memtable.specs.Loops.{bisect}
+use Rattle.memtable.specs.Memtable.{seek_place, ahead_at}
+use Rattle.memtable.proofs.LoopLaws.{bisect_low, bisect_high, bisect_done}
+use Rattle.value.proofs.CountLaws.{smaller_is_min}
 use Rattle.memtable.proofs.memtable.Memtable.seek.Goals as goal
 
+pub search-preserved-then-is_ahead : goal.search-preserved-then-is_ahead
+search-preserved-then-is_ahead c = (bisect_low _ 63 _ _ (omega arith) c.search-test.true c.if-is_ahead.ensures ∙ c.search.invariant.0, omega arith, omega arith)
+
 pub search-preserved : goal.search-preserved
-search-preserved c = search (rules, bisect_low, bisect_high)
+search-preserved c = (bisect_high _ 63 _ _ (omega arith) c.search-test.true c.if-is_ahead.ensures ∙ c.search.invariant.0, omega arith, omega arith)
 
-pub returns-after-search : goal.returns-after-search
+pub returns-clause-is : goal.returns-clause-is
 unfolding seek_place
-returns-after-search c = record { is = search (rules, bisect_end); within = search rules }
-
-pub returns-then-low-high : goal.returns-then-low-high
-unfolding seek_place
-returns-then-low-high c = record { is = search (rules, bisect_done); within = search rules }
+returns-clause-is c =
+    sym (bisect_done _ 64 _ _ c.search-test.false) ∙ c.search.invariant.0
+    ∙ ap (bisect (ahead_at c.args.index.now c.args.arena.now c.args.key.now c.args.moment) 64 0) (c.min-high.ensures ∙ smaller_is_min _ _)
