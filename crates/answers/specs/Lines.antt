@@ -4,6 +4,7 @@
 --   key_in, value_in   what a row has behind the length of its key
 --   line_of      the line that shows a row
 use Rattle.std.specs.Prelude.{ℕ, ◌+◌, ◌-◌, ◌/◌, ◌%◌, cond, ◌&&◌, List, [], ◌∷◌, ◌++◌, take, drop, nat_le, nat_lt}
+use Rattle.std.specs.List.{flat_map}
 
 abbrev pub hex_digit : ℕ → ℕ
 hex_digit n = cond (nat_lt (n % 16) 10) (48 + n % 16) (97 + (n % 16 - 10))
@@ -11,9 +12,8 @@ hex_digit n = cond (nat_lt (n % 16) 10) (48 + n % 16) (97 + (n % 16 - 10))
 abbrev pub shown : ℕ → List ℕ
 shown b = cond (nat_le 32 b && nat_le b 126) (b ∷ []) (92 ∷ 120 ∷ hex_digit (b / 16) ∷ hex_digit b ∷ [])
 
-unfoldable pub all_shown : List ℕ → List ℕ
-all_shown [] = []
-all_shown (n ∷ ns) = shown (n % 256) ++ all_shown ns
+abbrev pub all_shown : List ℕ → List ℕ
+all_shown ns = flat_map (λ n. shown (n % 256)) ns
 
 abbrev pub quoted : List ℕ → List ℕ
 quoted ns = 34 ∷ (all_shown ns ++ 34 ∷ [])
