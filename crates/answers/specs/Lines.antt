@@ -1,7 +1,6 @@
 -- A version as a line of text.
 --   shown        a byte: printable ASCII as itself, any other as \xNN
 --   quoted       numbers as bytes in double quotes
---   key_in, value_in   what a row has behind the length of its key
 --   line_of      the line that shows a row
 use Rattle.std.specs.Prelude.{ℕ, ◌+◌, ◌-◌, ◌/◌, ◌%◌, cond, ◌&&◌, List, [], ◌∷◌, ◌++◌, take, drop, nat_le, nat_lt}
 use Rattle.std.specs.List.{flat_map}
@@ -17,14 +16,6 @@ all_shown ns = flat_map (λ n. shown (n % 256)) ns
 
 abbrev pub quoted : List ℕ → List ℕ
 quoted ns = 34 ∷ (all_shown ns ++ 34 ∷ [])
-
-abbrev pub key_in : List ℕ → List ℕ
-key_in [] = []
-key_in (len ∷ rest) = take len rest
-
-abbrev pub value_in : List ℕ → List ℕ
-value_in [] = []
-value_in (len ∷ rest) = drop len rest
 
 abbrev pub line_of : List ℕ → List ℕ
 line_of [] = []

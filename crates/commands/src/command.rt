@@ -48,6 +48,7 @@ pub fn write<'a>(rest: &'a [Word]) -> Result<Command<'a>, Flaw>
     Ok(Command::Write(&key.bytes, moment(at)?, &value.bytes))
 }
 
+// `erase` and `get` differ in a name alone: what they share would need a definition of its own, and save a line.
 pub fn erase<'a>(rest: &'a [Word]) -> Result<Command<'a>, Flaw>
     ensures { meant_by result ≡ erase_of (map spelled rest.now) }
 {

@@ -1,5 +1,5 @@
 // A file of pages. A page that is put waits in memory until all that wait are settled, or until power goes.
-ghost use Rattle.std.specs.Prelude.{◌≡◌, IfOk, nat_lt};
+ghost use Rattle.std.specs.Prelude.{◌≡◌, [], IfOk, OnOk, nat_lt};
 ghost use Rattle.console.specs.Waits.{with_page};
 
 use crate::trouble::Trouble;
@@ -141,14 +141,19 @@ impl Device {
         Ok(true)
     }
 
-    fn sync(&mut self) -> Result<(), Trouble> {
+    // Nothing waits any more, and what was written is safe.
+    fn sync(&mut self) -> Result<(), Trouble>
+        ensures { self.new.queue.items ≡ [] }
+    {
         self.queue.clear();
         self.newest.clear();
         self.file.sync_data().map_err(Trouble::Sync)
     }
 
     // Writes all that waits.
-    pub fn settle(&mut self) -> Result<(), Trouble> {
+    pub fn settle(&mut self) -> Result<(), Trouble>
+        ensures { OnOk result (self.new.queue.items ≡ []) }
+    {
         for waiting in self.queue.iter() {
             waiting.write(&mut self.file, Part::All)?;
         }
@@ -156,7 +161,9 @@ impl Device {
     }
 
     // Power goes: of each page that waits, in order, only a part is written; where none is said, nothing.
-    pub fn stop(&mut self, left: &[Part]) -> Result<(), Trouble> {
+    pub fn stop(&mut self, left: &[Part]) -> Result<(), Trouble>
+        ensures { OnOk result (self.new.queue.items ≡ []) }
+    {
         for (waiting, part) in self.queue.iter().zip(left.iter()) {
             waiting.write(&mut self.file, *part)?;
         }

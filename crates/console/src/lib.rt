@@ -8,8 +8,4 @@ mod session;
 mod talk;
 mod trouble;
 
-pub use called::Called;
-pub use device::Device;
-pub use session::Session;
 pub use talk::run;
-pub use trouble::Trouble;

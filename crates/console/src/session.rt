@@ -54,11 +54,13 @@ fn zeros(heap: Global, len: usize) -> Result<Vec<u64>, AllocError> {
     vec![in heap; 0u64; len]
 }
 
-fn notes_for(event: Event<'_>) -> Notes {
-    Notes {
-        counts: counts(event),
-        rows: 0,
-        acts: Acts::default(),
+impl Notes {
+    fn of(event: Event<'_>) -> Notes {
+        Notes {
+            counts: counts(event),
+            rows: 0,
+            acts: Acts::default(),
+        }
     }
 }
 
@@ -87,8 +89,7 @@ impl<M: Machine + Drop> Session<M> {
     }
 
     fn put(&mut self, at: u64) -> Result<Reply, Trouble> {
-        let page =
-            page_of(self.out.as_slice()).ok_or(Trouble::Fault("it put what is no page"))?;
+        let page = page_of(self.out.as_slice()).ok_or(Trouble::Fault("it put what is no page"))?;
         if self.device.put(at, page)? {
             Ok(Reply::Next)
         } else {
@@ -105,8 +106,7 @@ impl<M: Machine + Drop> Session<M> {
     }
 
     fn show(&self, rt: &HostRuntime, len: u64, one_number: bool) -> Result<Reply, Trouble> {
-        let row =
-            row_of(self.out.as_slice(), len).ok_or(Trouble::Fault("it told too long a row"))?;
+        let row = row_of(self.out.as_slice(), len).ok_or(Trouble::Fault("it told too long a row"))?;
         if one_number {
             answer::show_count(rt, row)?;
         } else {
@@ -169,7 +169,7 @@ impl<M: Machine + Drop> Session<M> {
         forget(self.memory.as_mut_slice());
         self.late = 0;
         let event = Event::On(self.device.pages);
-        let mut notes = notes_for(event);
+        let mut notes = Notes::of(event);
         match self.run(rt, event, TURNS, &mut notes)? {
             End::Done => Ok(()),
             _ => Err(Trouble::Fault("it did not come up with power")),
@@ -223,7 +223,7 @@ impl<M: Machine + Drop> Session<M> {
         acts: u64,
     ) -> Result<End, Trouble> {
         let event = Event::Say(command);
-        let mut notes = notes_for(event);
+        let mut notes = Notes::of(event);
         let end = self.run(rt, event, acts, &mut notes)?;
         self.show_end(rt, command, end, &notes)?;
         Ok(end)

@@ -4,6 +4,7 @@ ghost use Rattle.lines.specs.Flaws.{reason_of};
 ghost use Rattle.lines.specs.declared.flaw.Flaw.TheVariants.{NoMemory};
 
 use std::alloc::{AllocError, AllocFailed};
+use std::error::Error;
 use std::fmt;
 
 #[derive(Clone, Copy, Debug, PartialEq, Eq)]
@@ -29,6 +30,8 @@ impl fmt::Display for Flaw {
         })
     }
 }
+
+impl Error for Flaw {}
 
 impl From<AllocError> for Flaw {
     ghost from_gives = { λ _ r. r ≡ NoMemory };

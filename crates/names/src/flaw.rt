@@ -5,6 +5,7 @@ ghost use Rattle.names.specs.declared.flaw.Flaw.TheVariants.{NoMemory};
 
 use crate::name::Name;
 use std::alloc::AllocFailed;
+use std::error::Error;
 use std::fmt;
 
 #[derive(Clone, Copy, Debug, PartialEq, Eq)]
@@ -33,6 +34,8 @@ impl fmt::Display for Flaw {
         })
     }
 }
+
+impl Error for Flaw {}
 
 impl<T: Drop> From<AllocFailed<T>> for Flaw {
     ghost from_gives = { λ _ r. r ≡ NoMemory };

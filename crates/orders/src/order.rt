@@ -1,7 +1,7 @@
 // What a line asks for, read from its words.
 ghost use Rattle.std.specs.Prelude.{◌≡◌, ◌⊎◌, map, Ok, Err, MatchResult};
-ghost use Rattle.commands.specs.Commands.{meant_by};
-ghost use Rattle.orders.specs.Orders.{part_number, part_of, parts_of, power_after_of, power_of, says_by, asked_of, order_of, Asks};
+ghost use Rattle.commands.specs.Commands.{none_of};
+ghost use Rattle.orders.specs.Orders.{part_number, part_of, parts_of, power_after_of, power_of, meant_order, if_alone, asked_of, order_of, Asks};
 ghost use Rattle.spelling.specs.Spelling.{numeral_of};
 ghost use Rattle.spelling.specs.Word.{spelled};
 
@@ -86,42 +86,30 @@ fn power<'a>(heap: Global, rest: &[Word]) -> Result<Order<'a>, Flaw>
     }
 }
 
-fn say<'a>(command: Result<Command<'a>, Flaw>) -> Result<Order<'a>, Flaw>
-    ensures { Asks result (says_by (meant_by command.entry)) }
+// What a name asks for that takes no words.
+fn alone<'a>(called: Name, rest: &[Word], order: Order<'a>) -> Result<Order<'a>, Flaw>
+    ensures { Asks result (if_alone (none_of called (map spelled rest.now)) (meant_order order.entry)) }
 {
-    Ok(Order::Say(command?))
-}
-
-fn help<'a>(rest: &[Word]) -> Result<Order<'a>, Flaw>
-    ensures { Asks result (asked_of Name.Help (map spelled rest.now)) }
-{
-    nothing_more(Name::Help, rest)?;
-    Ok(Order::Help)
-}
-
-fn quit<'a>(rest: &[Word]) -> Result<Order<'a>, Flaw>
-    ensures { Asks result (asked_of Name.Quit (map spelled rest.now)) }
-{
-    nothing_more(Name::Quit, rest)?;
-    Ok(Order::Quit)
+    nothing_more(called, rest)?;
+    Ok(order)
 }
 
 fn asked<'a>(heap: Global, called: Name, rest: &'a [Word]) -> Result<Order<'a>, Flaw>
     ensures { Asks result (asked_of called (map spelled rest.now)) }
 {
     match called {
-        Name::Write => say(commands::write(rest)),
-        Name::Erase => say(commands::erase(rest)),
-        Name::Get => say(commands::get(rest)),
-        Name::Range => say(commands::range(rest)),
-        Name::First => say(commands::first(rest)),
-        Name::Last => say(commands::last(rest)),
-        Name::Count => say(commands::count(rest)),
-        Name::Flush => say(commands::flush(rest)),
-        Name::Compact => say(commands::compact(rest)),
+        Name::Write => commands::write(rest).map(Order::Say),
+        Name::Erase => commands::erase(rest).map(Order::Say),
+        Name::Get => commands::get(rest).map(Order::Say),
+        Name::Range => commands::range(rest).map(Order::Say),
+        Name::First => commands::first(rest).map(Order::Say),
+        Name::Last => commands::last(rest).map(Order::Say),
+        Name::Count => commands::count(rest).map(Order::Say),
+        Name::Flush => commands::flush(rest).map(Order::Say),
+        Name::Compact => commands::compact(rest).map(Order::Say),
         Name::Power => power(heap, rest),
-        Name::Help => help(rest),
-        Name::Quit => quit(rest),
+        Name::Help => alone(called, rest, Order::Help),
+        Name::Quit => alone(called, rest, Order::Quit),
     }
 }
 
