@@ -1,5 +1,5 @@
 // A version as a line of text: its key and its value, in double quotes.
-ghost use Rattle.std.specs.Prelude.{◌≡◌, ◌++◌, IfOk, OnOk};
+ghost use Rattle.std.specs.Prelude.{◌≡◌, ◌++◌, take, drop, IfOk, OnOk};
 ghost use Rattle.answers.specs.Lines.{hex_digit, shown, quoted, line_of};
 
 use std::alloc::{AllocError, Global};
@@ -37,6 +37,14 @@ fn push_quoted(text: &mut Vec<u8>, numbers: &[u64]) -> Result<(), AllocError>
     Ok(())
 }
 
+// The first `len` numbers of a row, or all where it has fewer, and those behind them.
+fn cut_at(row: &[u64], len: u64) -> (&[u64], &[u64])
+    ensures front { result.0.now ≡ take len row.now }
+    ensures back { result.1.now ≡ drop len row.now }
+{
+    row.split_at(usize::try_from(len).unwrap_or(usize::MAX).min(row.len()))
+}
+
 // The line that shows the version in a row, which is the length of a key, the key, and the value; an empty row shows nothing.
 pub fn version_line(heap: Global, row: &[u64]) -> Result<Vec<u8>, AllocError>
     ensures { IfOk result (λ text. text.items ≡ line_of row.now) }
@@ -45,8 +53,7 @@ pub fn version_line(heap: Global, row: &[u64]) -> Result<Vec<u8>, AllocError>
     let [len, rest @ ..] = row else {
         return Ok(text);
     };
-    let cut = usize::try_from(*len).unwrap_or(usize::MAX).min(rest.len());
-    let (key, value) = rest.split_at(cut);
+    let (key, value) = cut_at(rest, *len);
     push_quoted(&mut text, key)?;
     text.extend_from_slice(b" ")?;
     push_quoted(&mut text, value)?;

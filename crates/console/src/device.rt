@@ -1,5 +1,5 @@
 // A file of pages. A page that is put waits in memory until all that wait are settled, or until power goes.
-ghost use Rattle.std.specs.Prelude.{◌≡◌, [], IfOk, OnOk, nat_lt};
+ghost use Rattle.std.specs.Prelude.{◌≡◌, [], IfOk, OnOk, is_some, nat_lt};
 ghost use Rattle.console.specs.Waits.{with_page};
 
 use crate::trouble::Trouble;
@@ -26,6 +26,7 @@ struct Waiting {
 pub struct Device {
     file: File,
     pub pages: u64,
+    // All writes in their order: a stop cuts each of them, so that a map of pages would not do.
     queue: Vec<Waiting>,
     // Where in the queue the newest write of a page stands.
     newest: BTreeMap<u64, usize>,
@@ -109,23 +110,24 @@ impl Device {
         self.queue.get(*place)
     }
 
-    fn fetch(&mut self, at: u64, page: &mut [u8; PAGE]) -> io::Result<()> {
+    fn fetch(&mut self, at: u64) -> io::Result<[u8; PAGE]> {
+        let mut page = [0u8; PAGE];
         self.file.seek(SeekFrom::Start(at.saturating_mul(512)))?;
-        self.file.read_exact(page)
+        self.file.read_exact(&mut page)?;
+        Ok(page)
     }
 
-    // Reads a page as its newest write has it, and says whether there is one.
-    pub fn read(&mut self, at: u64, page: &mut [u8; PAGE]) -> Result<bool, Trouble>
-        ensures { IfOk result (λ b. b ≡ nat_lt at self.old.pages) }
+    // Reads a page as its newest write has it, if there is a page of that number.
+    pub fn read(&mut self, at: u64) -> Result<Option<[u8; PAGE]>, Trouble>
+        ensures { IfOk result (λ page. is_some page ≡ nat_lt at self.old.pages) }
     {
         if self.pages <= at {
-            return Ok(false);
+            return Ok(None);
         }
         match self.waiting(at) {
-            Some(waiting) => page.copy_from_slice(&waiting.page),
-            None => self.fetch(at, page).map_err(Trouble::Read)?,
+            Some(waiting) => Ok(Some(waiting.page)),
+            None => self.fetch(at).map(Some).map_err(Trouble::Read),
         }
-        Ok(true)
     }
 
     // Lets a page wait, and says whether there is a page of that number.

@@ -98,11 +98,11 @@ impl<M: Machine + Drop> Session<M> {
     }
 
     fn read(&mut self, at: u64) -> Result<Reply, Trouble> {
-        if self.device.read(at, &mut self.page)? {
-            Ok(Reply::Page)
-        } else {
-            Ok(Reply::NoPage)
-        }
+        let Some(page) = self.device.read(at)? else {
+            return Ok(Reply::NoPage);
+        };
+        self.page = page;
+        Ok(Reply::Page)
     }
 
     fn show(&self, rt: &HostRuntime, len: u64, one_number: bool) -> Result<Reply, Trouble> {

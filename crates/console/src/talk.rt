@@ -58,6 +58,7 @@ fn take_line<M: Machine + Drop>(
 
 fn talk<M: Machine + Drop>(rt: &HostRuntime, session: &mut Session<M>) -> Result<(), Trouble> {
     let mut input = BufReader::new(rt.alloc(), rt.stdin())?;
+    // One buffer for all lines: an iterator of lines makes one for each.
     let mut line = Vec::new(rt.alloc());
     for _ in 0..u64::MAX {
         line.clear();

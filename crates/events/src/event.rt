@@ -9,6 +9,7 @@ use store::Told;
 // What came of an act.
 #[derive(Clone, Copy)]
 pub enum Reply {
+    // A page was read. It is lent beside this: a reply that held it would hold the reader too.
     Page,
     // The page that was asked for is not there.
     NoPage,
