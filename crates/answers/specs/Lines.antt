@@ -1,9 +1,9 @@
 -- A version as a line of text.
 --   shown        a byte: printable ASCII as itself, any other as \xNN
 --   quoted       numbers as bytes in double quotes
---   key_in, value_in   what a row has behind the length of its key
 --   line_of      the line that shows a row
 use Rattle.std.specs.Prelude.{ℕ, ◌+◌, ◌-◌, ◌/◌, ◌%◌, cond, ◌&&◌, List, [], ◌∷◌, ◌++◌, take, drop, nat_le, nat_lt}
+use Rattle.std.specs.List.{flat_map}
 
 abbrev pub hex_digit : ℕ → ℕ
 hex_digit n = cond (nat_lt (n % 16) 10) (48 + n % 16) (97 + (n % 16 - 10))
@@ -11,20 +11,11 @@ hex_digit n = cond (nat_lt (n % 16) 10) (48 + n % 16) (97 + (n % 16 - 10))
 abbrev pub shown : ℕ → List ℕ
 shown b = cond (nat_le 32 b && nat_le b 126) (b ∷ []) (92 ∷ 120 ∷ hex_digit (b / 16) ∷ hex_digit b ∷ [])
 
-unfoldable pub all_shown : List ℕ → List ℕ
-all_shown [] = []
-all_shown (n ∷ ns) = shown (n % 256) ++ all_shown ns
+abbrev pub all_shown : List ℕ → List ℕ
+all_shown ns = flat_map (λ n. shown (n % 256)) ns
 
 abbrev pub quoted : List ℕ → List ℕ
 quoted ns = 34 ∷ (all_shown ns ++ 34 ∷ [])
-
-abbrev pub key_in : List ℕ → List ℕ
-key_in [] = []
-key_in (len ∷ rest) = take len rest
-
-abbrev pub value_in : List ℕ → List ℕ
-value_in [] = []
-value_in (len ∷ rest) = drop len rest
 
 abbrev pub line_of : List ℕ → List ℕ
 line_of [] = []

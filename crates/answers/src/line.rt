@@ -1,9 +1,10 @@
 // A version as a line of text: its key and its value, in double quotes.
-ghost use Rattle.std.specs.Prelude.{◌≡◌, ◌++◌, IfOk, OnOk};
-ghost use Rattle.answers.specs.Lines.{hex_digit, shown, quoted, key_in, value_in, line_of};
+ghost use Rattle.std.specs.Prelude.{◌≡◌, ◌++◌, take, drop, IfOk, OnOk};
+ghost use Rattle.answers.specs.Lines.{hex_digit, shown, quoted, line_of};
 
 use std::alloc::{AllocError, Global};
 
+// `char::from_digit` is no plainer: it takes a `u32`, and gives an option of a `char`.
 fn hex(n: u8) -> u8
     ensures { result ≡ hex_digit n }
 {
@@ -36,44 +37,26 @@ fn push_quoted(text: &mut Vec<u8>, numbers: &[u64]) -> Result<(), AllocError>
     Ok(())
 }
 
-// A row is the length of a key, the key, and the value.
-fn key_of(row: &[u64]) -> &[u64]
-    ensures { result.now ≡ key_in row.now }
+// The first `len` numbers of a row, or all where it has fewer, and those behind them.
+fn cut_at(row: &[u64], len: u64) -> (&[u64], &[u64])
+    ensures front { result.0.now ≡ take len row.now }
+    ensures back { result.1.now ≡ drop len row.now }
 {
-    let [len, rest @ ..] = row else {
-        return row;
-    };
-    if *len < rest.len() as u64 {
-        &rest[0..*len as usize]
-    } else {
-        rest
-    }
+    row.split_at(usize::try_from(len).unwrap_or(usize::MAX).min(row.len()))
 }
 
-fn value_of(row: &[u64]) -> &[u64]
-    ensures { result.now ≡ value_in row.now }
-{
-    let [len, rest @ ..] = row else {
-        return row;
-    };
-    if *len < rest.len() as u64 {
-        &rest[*len as usize..]
-    } else {
-        &rest[rest.len()..]
-    }
-}
-
-// The line that shows the version in a row; an empty row shows nothing.
+// The line that shows the version in a row, which is the length of a key, the key, and the value; an empty row shows nothing.
 pub fn version_line(heap: Global, row: &[u64]) -> Result<Vec<u8>, AllocError>
     ensures { IfOk result (λ text. text.items ≡ line_of row.now) }
 {
     let mut text = Vec::new(heap);
-    if row.is_empty() {
+    let [len, rest @ ..] = row else {
         return Ok(text);
-    }
-    push_quoted(&mut text, key_of(row))?;
+    };
+    let (key, value) = cut_at(rest, *len);
+    push_quoted(&mut text, key)?;
     text.extend_from_slice(b" ")?;
-    push_quoted(&mut text, value_of(row))?;
+    push_quoted(&mut text, value)?;
     text.extend_from_slice(b"\n")?;
     Ok(text)
 }

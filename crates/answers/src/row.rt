@@ -9,20 +9,13 @@ const PAGE: usize = 512;
 pub fn row_of(out: &[u64], len: u64) -> Option<&[u64]>
     ensures { option_map (λ x. x.now) result ≡ front out.now len }
 {
-    if (out.len() as u64) < len {
-        return None;
-    }
-    Some(&out[0..len as usize])
+    out.get(..usize::try_from(len).ok()?)
 }
 
 fn byte_at(out: &[u64], i: usize) -> Option<u8>
     ensures { result ≡ as_byte (slice_index out.now i) }
 {
-    if i >= out.len() {
-        return Some(0);
-    }
-    let n = out[i];
-    if n < 256 { Some(n as u8) } else { None }
+    out.get(i).map_or(Some(0), |n| u8::try_from(*n).ok())
 }
 
 // The first numbers as the bytes of a page, if each is one; past the end they count as 0.
@@ -30,8 +23,8 @@ pub fn page_of(out: &[u64]) -> Option<[u8; PAGE]>
     ensures { PageSays out.now result }
 {
     let mut page = [0u8; PAGE];
-    for i in 0..PAGE {
-        page[i] = byte_at(out, i)?;
+    for (i, b) in page.iter_mut().enumerate() {
+        *b = byte_at(out, i)?;
     }
     Some(page)
 }

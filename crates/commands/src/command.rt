@@ -25,10 +25,7 @@ pub enum Command<'a> {
 fn moment(word: &Word) -> Result<u64, Flaw>
     ensures { result ≡ moment_of (spelled word.now) }
 {
-    match numeral(word) {
-        Some(n) => Ok(n),
-        None => Err(Flaw::NoMoment),
-    }
+    numeral(word).ok_or(Flaw::NoMoment)
 }
 
 // `none` without quotes is no end.
@@ -45,62 +42,56 @@ fn end_of<'a>(word: &'a Word) -> Option<&'a [u8]>
 pub fn write<'a>(rest: &'a [Word]) -> Result<Command<'a>, Flaw>
     ensures { meant_by result ≡ write_of (map spelled rest.now) }
 {
-    if rest.len() != 3 {
+    let [key, at, value] = rest else {
         return Err(Flaw::Form(Name::Write));
-    }
-    let key = rest[0].bytes.as_slice();
-    let value = rest[2].bytes.as_slice();
-    Ok(Command::Write(key, moment(&rest[1])?, value))
+    };
+    Ok(Command::Write(&key.bytes, moment(at)?, &value.bytes))
 }
 
+// `erase` and `get` differ in a name alone: what they share would need a definition of its own, and save a line.
 pub fn erase<'a>(rest: &'a [Word]) -> Result<Command<'a>, Flaw>
     ensures { meant_by result ≡ erase_of (map spelled rest.now) }
 {
-    if rest.len() != 2 {
+    let [key, at] = rest else {
         return Err(Flaw::Form(Name::Erase));
-    }
-    let key = rest[0].bytes.as_slice();
-    Ok(Command::Erase(key, moment(&rest[1])?))
+    };
+    Ok(Command::Erase(&key.bytes, moment(at)?))
 }
 
 pub fn get<'a>(rest: &'a [Word]) -> Result<Command<'a>, Flaw>
     ensures { meant_by result ≡ get_of (map spelled rest.now) }
 {
-    if rest.len() != 2 {
+    let [key, at] = rest else {
         return Err(Flaw::Form(Name::Get));
-    }
-    let key = rest[0].bytes.as_slice();
-    Ok(Command::Get(key, moment(&rest[1])?))
+    };
+    Ok(Command::Get(&key.bytes, moment(at)?))
 }
 
 pub fn range<'a>(rest: &'a [Word]) -> Result<Command<'a>, Flaw>
     ensures { meant_by result ≡ range_of (map spelled rest.now) }
 {
-    if rest.len() != 3 {
+    let [from, to, at] = rest else {
         return Err(Flaw::Form(Name::Range));
-    }
-    let from = rest[0].bytes.as_slice();
-    let to = end_of(&rest[1]);
-    Ok(Command::Range(from, to, moment(&rest[2])?))
+    };
+    Ok(Command::Range(&from.bytes, end_of(to), moment(at)?))
 }
 
 // The one moment that stands behind a name.
 fn only_moment(called: Name, rest: &[Word]) -> Result<u64, Flaw>
     ensures { result ≡ only_moment called (map spelled rest.now) }
 {
-    if rest.len() != 1 {
+    let [at] = rest else {
         return Err(Flaw::Form(called));
-    }
-    moment(&rest[0])
+    };
+    moment(at)
 }
 
 pub fn nothing_more(called: Name, rest: &[Word]) -> Result<(), Flaw>
     ensures { result ≡ none_of called (map spelled rest.now) }
 {
-    if rest.is_empty() {
-        Ok(())
-    } else {
-        Err(Flaw::Form(called))
+    match rest {
+        [] => Ok(()),
+        _ => Err(Flaw::Form(called)),
     }
 }
 

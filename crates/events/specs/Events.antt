@@ -1,10 +1,10 @@
 -- How the shell tells the machine an event: the number, the moment and the rows that a step takes for it.
 --   said_by      what a command is told by
 --   told_by      what an event is told by: power, with the number of pages; a command; the page that was read, or no bytes where there is none; go on
+--   Stepping     what a machine's steps may do: memory, what is taken, the row, what is told, and both afterwards
 --   Tells        the step of an event
 use Rattle.std.specs.Prelude.{ℕ, List, [], Some, None}
 use Rattle.store.specs.declared.told.Told.{Told}
-use Rattle.flushing_store.specs.Entry.{StepSays, step_fits}
 use Rattle.commands.specs.declared.command.Command.{Command}
 use Rattle.commands.specs.declared.command.Command.TheVariants.{Write, Erase, Get, Range, First, Last, Count, Flush, Compact}
 use Rattle.events.specs.declared.event.Taken.{Taken}
@@ -38,8 +38,8 @@ told_by (Back Page) p = (11, 0, [], p)
 told_by (Back NoPage) p = (11, 0, [], [])
 told_by (Back Next) p = (12, 0, [], [])
 
-abbrev pub Steps : List ℕ → Takes → List ℕ → Told → List ℕ → List ℕ → Type 0
-Steps memory t out r memory₁ out₁ = StepSays memory t.0 t.1 t.2 t.3 out (step_fits memory t.0 t.2 t.3 out) r memory₁ out₁
+abbrev pub Stepping : Type 1
+Stepping = List ℕ → Takes → List ℕ → Told → List ℕ → List ℕ → Type 0
 
-abbrev pub Tells : List ℕ → Event → List ℕ → List ℕ → Told → List ℕ → List ℕ → Type 0
-Tells memory e p out r memory₁ out₁ = Steps memory (told_by e p) out r memory₁ out₁
+abbrev pub Tells : Stepping → List ℕ → Event → List ℕ → List ℕ → Told → List ℕ → List ℕ → Type 0
+Tells Steps memory e p out r memory₁ out₁ = Steps memory (told_by e p) out r memory₁ out₁

@@ -2,12 +2,14 @@
 ghost use Rattle.std.specs.Prelude.{◌≡◌, ℕ, ◌<◌, length, slice_index};
 ghost use Rattle.events.specs.Events.{taken, said_by, told_by, Tells};
 
+use crate::machine::Machine;
 use commands::Command;
 use store::Told;
 
 // What came of an act.
 #[derive(Clone, Copy)]
 pub enum Reply {
+    // A page was read. It is lent beside this: a reply that held it would hold the reader too.
     Page,
     // The page that was asked for is not there.
     NoPage,
@@ -71,19 +73,22 @@ fn taken_for<'a>(event: Event<'a>, page: &'a [u8]) -> Taken<'a>
     }
 }
 
-// Tells the machine an event; `page` is what was read last.
-pub fn tell<'a>(memory: &mut [u64], event: Event<'a>, page: &'a [u8], out: &mut [u64]) -> Told
-    ensures { Tells memory.old event.entry page.now out.old result memory.new out.new }
+// Tells a machine an event; `page` is what was read last.
+pub fn tell<'a, M: Machine>(
+    memory: &mut [u64],
+    event: Event<'a>,
+    page: &'a [u8],
+    out: &mut [u64],
+) -> Told
+    ensures { Tells M.Steps memory.old event.entry page.now out.old result memory.new out.new }
 {
     let taken = taken_for(event, page);
-    flushing_store::step(memory, taken.kind, taken.number, taken.one, taken.two, out)
+    M::step(memory, taken.kind, taken.number, taken.one, taken.two, out)
 }
 
 // Power goes: of what stood in memory nothing is left.
 pub fn forget(memory: &mut [u64])
     ensures { (k : ℕ) → k < length memory.new → slice_index memory.new k ≡ 0 }
 {
-    for x in memory.iter_mut() {
-        *x = 0;
-    }
+    memory.fill(0);
 }

@@ -2,7 +2,9 @@
 #![tactic(auto)]
 
 mod event;
+mod machine;
 mod notes;
 
 pub use event::{Event, Reply, forget, tell};
+pub use machine::Machine;
 pub use notes::{Acts, counts, late_after, shows};

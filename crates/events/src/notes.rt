@@ -14,17 +14,20 @@ pub struct Acts {
     pub settle: u64,
 }
 
-impl Acts {
-    pub fn none() -> Acts
-        ensures { result ≡ no_acts }
-    {
+// By hand: what a count starts from stands in the text.
+impl Default for Acts {
+    ghost is_default = { λ a. a ≡ no_acts };
+
+    fn default() -> Acts {
         Acts {
             read: 0,
             put: 0,
             settle: 0,
         }
     }
+}
 
+impl Acts {
     // With what the machine asks for next.
     pub fn with(self, told: Told) -> Acts
         ensures { result ≡ acted self told }
@@ -51,23 +54,17 @@ impl Acts {
 pub fn shows(command: Command<'_>) -> bool
     ensures { result ≡ showing command.entry }
 {
-    match command {
-        Command::Get(_, _) => true,
-        Command::Range(_, _, _) => true,
-        Command::First(_) => true,
-        Command::Last(_) => true,
-        _ => false,
-    }
+    matches!(
+        command,
+        Command::Get(..) | Command::Range(..) | Command::First(_) | Command::Last(_)
+    )
 }
 
 // Is a row that is told one number?
 pub fn counts(event: Event<'_>) -> bool
     ensures { result ≡ counting event.entry }
 {
-    match event {
-        Event::Say(Command::Count(_)) => true,
-        _ => false,
-    }
+    matches!(event, Event::Say(Command::Count(_)))
 }
 
 // How many versions are not safe after a command that is done, if it was `late` before.
@@ -75,10 +72,8 @@ pub fn late_after(command: Command<'_>, late: u64) -> u64
     ensures { result ≡ late_by command.entry late }
 {
     match command {
-        Command::Write(_, _, _) => late.saturating_add(1),
-        Command::Erase(_, _) => late.saturating_add(1),
-        Command::Flush => 0,
-        Command::Compact(_) => 0,
+        Command::Write(..) | Command::Erase(..) => late.saturating_add(1),
+        Command::Flush | Command::Compact(_) => 0,
         _ => late,
     }
 }

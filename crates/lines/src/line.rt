@@ -33,21 +33,20 @@ pub enum Deed {
 pub fn without_newline(line: &[u8]) -> &[u8]
     ensures { result.now ≡ before_newline line.now }
 {
-    let len = line.len();
-    if len > 0 && line[len - 1] == b'\n' {
-        &line[0..len - 1]
-    } else {
-        line
+    match line {
+        [rest @ .., b'\n'] => rest,
+        _ => line,
     }
 }
 
 fn is_blank(b: u8) -> bool
     ensures { result ≡ blank b }
 {
-    b == b' ' || b == b'\t' || b == b'\r'
+    matches!(b, b' ' | b'\t' | b'\r')
 }
 
 // Does the line begin with #?
+#[tactic(auto, unfolding(crate::specs::Words::comment))]
 pub fn is_comment(line: &[u8]) -> bool
     ensures { result ≡ comment line.now }
 {
@@ -62,12 +61,7 @@ pub fn is_comment(line: &[u8]) -> bool
 fn hex_digit(b: u8) -> Option<u8>
     ensures { result ≡ hex_value b }
 {
-    match b {
-        b'0'..=b'9' => Some(b - b'0'),
-        b'a'..=b'f' => Some(b - b'a' + 10),
-        b'A'..=b'F' => Some(b - b'A' + 10),
-        _ => None,
-    }
+    char::from(b).to_digit(16).map(|d| d as u8)
 }
 
 fn escaped(b: u8) -> Result<(Place, Deed), Flaw>
@@ -86,19 +80,15 @@ fn escaped(b: u8) -> Result<(Place, Deed), Flaw>
 fn after_high(b: u8) -> Result<(Place, Deed), Flaw>
     ensures { result ≡ high_step (hex_value b) }
 {
-    match hex_digit(b) {
-        Some(high) => Ok((Place::LowDigit(high), Deed::Pass)),
-        None => Err(Flaw::NoHexDigit),
-    }
+    let high = hex_digit(b).ok_or(Flaw::NoHexDigit)?;
+    Ok((Place::LowDigit(high), Deed::Pass))
 }
 
 fn after_low(high: u8, b: u8) -> Result<(Place, Deed), Flaw>
     ensures { result ≡ low_step high (hex_value b) }
 {
-    match hex_digit(b) {
-        Some(low) => Ok((Place::Quoted, Deed::Take(high % 16 * 16 + low))),
-        None => Err(Flaw::NoHexDigit),
-    }
+    let low = hex_digit(b).ok_or(Flaw::NoHexDigit)?;
+    Ok((Place::Quoted, Deed::Take(high % 16 * 16 + low)))
 }
 
 fn in_quotes(b: u8) -> (Place, Deed)
@@ -163,8 +153,7 @@ fn at_end(place: Place) -> Result<Deed, Flaw>
     ensures { result ≡ end_at place }
 {
     match place {
-        Place::Between => Ok(Deed::Pass),
-        Place::Closed => Ok(Deed::Pass),
+        Place::Between | Place::Closed => Ok(Deed::Pass),
         Place::Plain => Ok(Deed::End(false)),
         _ => Err(Flaw::NotClosed),
     }
@@ -191,6 +180,7 @@ fn perform(
 }
 
 // The words of a line, or what is wrong with it.
+#[tactic(auto, unfolding(crate::specs::Words::words_from))]
 pub fn split(heap: Global, line: &[u8]) -> Result<Vec<Word>, Flaw>
     ensures { MatchResult result (λ ws. words_of line.now ≡ Ok (map spelled ws.items)) (λ e. (e ≡ Flaw.NoMemory) ⊎ (words_of line.now ≡ Err e)) }
 {

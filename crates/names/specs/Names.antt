@@ -1,5 +1,4 @@
 -- The names of the commands.
---   with_key, without_key, of_shell   commands that take a key, other commands of the store, and those of the shell itself
 --   name_of      which command a word names
 --   form_of      what a line of a command is expected to be
 use Rattle.std.specs.Prelude.{ℕ, cond, List, Some, None, codes, Option}
@@ -7,23 +6,20 @@ use Rattle.std.specs.Str.{bytes_eq}
 use Rattle.names.specs.declared.name.Name.{Name}
 use Rattle.names.specs.declared.name.Name.TheVariants as name
 
-abbrev pub with_key : List ℕ → Option Name
-with_key bs =
-    cond (bytes_eq bs (codes "write")) (Some name.Write) (cond (bytes_eq bs (codes "erase")) (Some name.Erase) (cond (bytes_eq bs (codes "get")) (Some name.Get) (cond (bytes_eq bs (codes "range")) (Some name.Range) None)))
-
-abbrev pub without_key : List ℕ → Option Name
-without_key bs =
-    cond (bytes_eq bs (codes "first")) (Some name.First) (cond (bytes_eq bs (codes "last")) (Some name.Last) (cond (bytes_eq bs (codes "count")) (Some name.Count) (cond (bytes_eq bs (codes "flush")) (Some name.Flush) (cond (bytes_eq bs (codes "compact")) (Some name.Compact) None))))
-
-abbrev pub of_shell : List ℕ → Option Name
-of_shell bs = cond (bytes_eq bs (codes "power")) (Some name.Power) (cond (bytes_eq bs (codes "help")) (Some name.Help) (cond (bytes_eq bs (codes "quit")) (Some name.Quit) None))
-
-abbrev pub or_else : Option Name → Option Name → Option Name
-or_else (Some n) o = Some n
-or_else None o = o
-
 abbrev pub name_of : List ℕ → Option Name
-name_of bs = or_else (with_key bs) (or_else (without_key bs) (of_shell bs))
+name_of bs =
+    cond (bytes_eq bs (codes "write")) (Some name.Write) (
+    cond (bytes_eq bs (codes "erase")) (Some name.Erase) (
+    cond (bytes_eq bs (codes "get")) (Some name.Get) (
+    cond (bytes_eq bs (codes "range")) (Some name.Range) (
+    cond (bytes_eq bs (codes "first")) (Some name.First) (
+    cond (bytes_eq bs (codes "last")) (Some name.Last) (
+    cond (bytes_eq bs (codes "count")) (Some name.Count) (
+    cond (bytes_eq bs (codes "flush")) (Some name.Flush) (
+    cond (bytes_eq bs (codes "compact")) (Some name.Compact) (
+    cond (bytes_eq bs (codes "power")) (Some name.Power) (
+    cond (bytes_eq bs (codes "help")) (Some name.Help) (
+    cond (bytes_eq bs (codes "quit")) (Some name.Quit) None)))))))))))
 
 abbrev pub form_of : Name → List ℕ
 form_of name.Write = codes "what is expected is: write KEY MOMENT VALUE"

@@ -1,11 +1,9 @@
 // The names of the commands.
 ghost use Rattle.std.specs.Prelude.{◌≡◌};
-ghost use Rattle.names.specs.Names.{with_key, without_key, of_shell, name_of, form_of};
-
-use spelling::is;
+ghost use Rattle.names.specs.Names.{name_of, form_of};
 
 // The first word of a command.
-#[derive(Clone, Copy)]
+#[derive(Clone, Copy, Debug, PartialEq, Eq)]
 pub enum Name {
     Write,
     Erase,
@@ -43,63 +41,23 @@ impl Name {
     }
 }
 
-fn with_key(bytes: &[u8]) -> Option<Name>
-    ensures { result ≡ with_key bytes.now }
-{
-    if is(bytes, b"write") {
-        Some(Name::Write)
-    } else if is(bytes, b"erase") {
-        Some(Name::Erase)
-    } else if is(bytes, b"get") {
-        Some(Name::Get)
-    } else if is(bytes, b"range") {
-        Some(Name::Range)
-    } else {
-        None
-    }
-}
-
-fn without_key(bytes: &[u8]) -> Option<Name>
-    ensures { result ≡ without_key bytes.now }
-{
-    if is(bytes, b"first") {
-        Some(Name::First)
-    } else if is(bytes, b"last") {
-        Some(Name::Last)
-    } else if is(bytes, b"count") {
-        Some(Name::Count)
-    } else if is(bytes, b"flush") {
-        Some(Name::Flush)
-    } else if is(bytes, b"compact") {
-        Some(Name::Compact)
-    } else {
-        None
-    }
-}
-
-fn of_shell(bytes: &[u8]) -> Option<Name>
-    ensures { result ≡ of_shell bytes.now }
-{
-    if is(bytes, b"power") {
-        Some(Name::Power)
-    } else if is(bytes, b"help") {
-        Some(Name::Help)
-    } else if is(bytes, b"quit") {
-        Some(Name::Quit)
-    } else {
-        None
-    }
-}
-
 // The command that a word names.
 pub fn name_of(bytes: &[u8]) -> Option<Name>
     ensures { result ≡ name_of bytes.now }
 {
-    if let Some(name) = with_key(bytes) {
-        return Some(name);
+    match bytes {
+        b"write" => Some(Name::Write),
+        b"erase" => Some(Name::Erase),
+        b"get" => Some(Name::Get),
+        b"range" => Some(Name::Range),
+        b"first" => Some(Name::First),
+        b"last" => Some(Name::Last),
+        b"count" => Some(Name::Count),
+        b"flush" => Some(Name::Flush),
+        b"compact" => Some(Name::Compact),
+        b"power" => Some(Name::Power),
+        b"help" => Some(Name::Help),
+        b"quit" => Some(Name::Quit),
+        _ => None,
     }
-    if let Some(name) = without_key(bytes) {
-        return Some(name);
-    }
-    of_shell(bytes)
 }

@@ -1,7 +1,7 @@
 // What a line asks for, read from its words.
 ghost use Rattle.std.specs.Prelude.{◌≡◌, ◌⊎◌, map, Ok, Err, MatchResult};
-ghost use Rattle.commands.specs.Commands.{meant_by};
-ghost use Rattle.orders.specs.Orders.{part_of, parts_of, power_after_of, power_of, says_by, asked_of, order_of, Asks};
+ghost use Rattle.commands.specs.Commands.{none_of};
+ghost use Rattle.orders.specs.Orders.{part_number, part_of, parts_of, power_after_of, power_of, meant_order, if_alone, asked_of, order_of, Asks};
 ghost use Rattle.spelling.specs.Spelling.{numeral_of};
 ghost use Rattle.spelling.specs.Word.{spelled};
 
@@ -11,7 +11,7 @@ use spelling::{Word, is_plain, numeral};
 use std::alloc::Global;
 
 // How much of a waiting page a stop leaves.
-#[derive(Clone, Copy)]
+#[derive(Clone, Copy, Debug, PartialEq, Eq)]
 pub enum Part {
     Nothing,
     All,
@@ -36,17 +36,28 @@ pub enum Order<'a> {
     Quit,
 }
 
-fn part_left(word: &Word) -> Result<Part, Flaw>
-    ensures { result ≡ part_of (numeral_of (spelled word.now)) }
-{
-    match numeral(word) {
-        Some(0) => Ok(Part::Nothing),
-        Some(1) => Ok(Part::All),
-        Some(2) => Ok(Part::Half),
-        _ => Err(Flaw::NoPart),
+impl TryFrom<u64> for Part {
+    type Error = Flaw;
+
+    ghost try_from_gives = { λ n r. r ≡ part_number n };
+
+    fn try_from(n: u64) -> Result<Part, Flaw> {
+        match n {
+            0 => Ok(Part::Nothing),
+            1 => Ok(Part::All),
+            2 => Ok(Part::Half),
+            _ => Err(Flaw::NoPart),
+        }
     }
 }
 
+fn part_left(word: &Word) -> Result<Part, Flaw>
+    ensures { result ≡ part_of (numeral_of (spelled word.now)) }
+{
+    Part::try_from(numeral(word).ok_or(Flaw::NoPart)?)
+}
+
+#[tactic(auto, unfolding(crate::specs::Orders::parts_from))]
 fn parts(heap: Global, rest: &[Word]) -> Result<Vec<Part>, Flaw>
     ensures { MatchResult result (λ v. parts_of (map spelled rest.now) ≡ Ok v.items) (λ e. (e ≡ Flaw.NoMemory) ⊎ (parts_of (map spelled rest.now) ≡ Err e)) }
 {
@@ -60,9 +71,7 @@ fn parts(heap: Global, rest: &[Word]) -> Result<Vec<Part>, Flaw>
 fn power_after<'a>(heap: Global, acts: &Word, rest: &[Word]) -> Result<Order<'a>, Flaw>
     ensures { Asks result (power_after_of (numeral_of (spelled acts.now)) (parts_of (map spelled rest.now))) }
 {
-    let Some(acts) = numeral(acts) else {
-        return Err(Flaw::NoActs);
-    };
+    let acts = numeral(acts).ok_or(Flaw::NoActs)?;
     let left = parts(heap, rest)?;
     Ok(Order::PowerAfter(Cut { acts, left }))
 }
@@ -70,54 +79,37 @@ fn power_after<'a>(heap: Global, acts: &Word, rest: &[Word]) -> Result<Order<'a>
 fn power<'a>(heap: Global, rest: &[Word]) -> Result<Order<'a>, Flaw>
     ensures { Asks result (power_of (map spelled rest.now)) }
 {
-    if rest.is_empty() {
-        return Ok(Order::Power);
+    match rest {
+        [] => Ok(Order::Power),
+        [first, acts, left @ ..] if is_plain(first, b"after") => power_after(heap, acts, left),
+        _ => Err(Flaw::Form(Name::Power)),
     }
-    if rest.len() < 2 {
-        return Err(Flaw::Form(Name::Power));
-    }
-    if !is_plain(&rest[0], b"after") {
-        return Err(Flaw::Form(Name::Power));
-    }
-    power_after(heap, &rest[1], &rest[2..])
 }
 
-fn say<'a>(command: Result<Command<'a>, Flaw>) -> Result<Order<'a>, Flaw>
-    ensures { Asks result (says_by (meant_by command.entry)) }
+// What a name asks for that takes no words.
+fn alone<'a>(called: Name, rest: &[Word], order: Order<'a>) -> Result<Order<'a>, Flaw>
+    ensures { Asks result (if_alone (none_of called (map spelled rest.now)) (meant_order order.entry)) }
 {
-    Ok(Order::Say(command?))
-}
-
-fn help<'a>(rest: &[Word]) -> Result<Order<'a>, Flaw>
-    ensures { Asks result (asked_of Name.Help (map spelled rest.now)) }
-{
-    nothing_more(Name::Help, rest)?;
-    Ok(Order::Help)
-}
-
-fn quit<'a>(rest: &[Word]) -> Result<Order<'a>, Flaw>
-    ensures { Asks result (asked_of Name.Quit (map spelled rest.now)) }
-{
-    nothing_more(Name::Quit, rest)?;
-    Ok(Order::Quit)
+    nothing_more(called, rest)?;
+    Ok(order)
 }
 
 fn asked<'a>(heap: Global, called: Name, rest: &'a [Word]) -> Result<Order<'a>, Flaw>
     ensures { Asks result (asked_of called (map spelled rest.now)) }
 {
     match called {
-        Name::Write => say(commands::write(rest)),
-        Name::Erase => say(commands::erase(rest)),
-        Name::Get => say(commands::get(rest)),
-        Name::Range => say(commands::range(rest)),
-        Name::First => say(commands::first(rest)),
-        Name::Last => say(commands::last(rest)),
-        Name::Count => say(commands::count(rest)),
-        Name::Flush => say(commands::flush(rest)),
-        Name::Compact => say(commands::compact(rest)),
+        Name::Write => commands::write(rest).map(Order::Say),
+        Name::Erase => commands::erase(rest).map(Order::Say),
+        Name::Get => commands::get(rest).map(Order::Say),
+        Name::Range => commands::range(rest).map(Order::Say),
+        Name::First => commands::first(rest).map(Order::Say),
+        Name::Last => commands::last(rest).map(Order::Say),
+        Name::Count => commands::count(rest).map(Order::Say),
+        Name::Flush => commands::flush(rest).map(Order::Say),
+        Name::Compact => commands::compact(rest).map(Order::Say),
         Name::Power => power(heap, rest),
-        Name::Help => help(rest),
-        Name::Quit => quit(rest),
+        Name::Help => alone(called, rest, Order::Help),
+        Name::Quit => alone(called, rest, Order::Quit),
     }
 }
 
@@ -125,15 +117,12 @@ fn asked<'a>(heap: Global, called: Name, rest: &'a [Word]) -> Result<Order<'a>, 
 pub fn parse<'a>(heap: Global, words: &'a [Word]) -> Result<Order<'a>, Flaw>
     ensures { Asks result (order_of (map spelled words.now)) }
 {
-    if words.is_empty() {
+    let [first, rest @ ..] = words else {
         return Ok(Order::Pass);
-    }
-    let first = &words[0];
+    };
     if first.quoted {
         return Err(Flaw::NoSuchCommand);
     }
-    match name_of(first.bytes.as_slice()) {
-        Some(called) => asked(heap, called, &words[1..]),
-        None => Err(Flaw::NoSuchCommand),
-    }
+    let called = name_of(&first.bytes).ok_or(Flaw::NoSuchCommand)?;
+    asked(heap, called, rest)
 }

@@ -2,7 +2,8 @@
 --   fits_size    64 to 1,048,576 pages
 --   pages_of     the pages in so many bytes
 --   with_word    options with one word more
-use Rattle.std.specs.Prelude.{ℕ, ◌/◌, ◌%◌, Bool, true, false, cond, ◌&&◌, List, Some, None, codes, Option, ◌==◌, nat_le}
+--   without_plus a word without the plus that stands before a digit
+use Rattle.std.specs.Prelude.{ℕ, ◌/◌, ◌%◌, Bool, true, false, cond, ◌&&◌, List, [], ◌∷◌, Some, None, codes, Option, ◌==◌, nat_le}
 use Rattle.std.specs.Str.{bytes_eq}
 use Rattle.spelling.specs.declared.options.Options.{Options}
 use Rattle.spelling.specs.Spelling.{number_of}
@@ -22,3 +23,8 @@ sized o (Some n) = cond (fits_size n) (Some (record { pages = n; with_acts = o.w
 
 abbrev pub with_word : Options → List ℕ → Option Options
 with_word o w = cond (bytes_eq w (codes "--acts")) (Some (record { pages = o.pages; with_acts = true })) (sized o (number_of w))
+
+abbrev pub without_plus : List ℕ → List ℕ
+without_plus [] = []
+without_plus (b ∷ []) = b ∷ []
+without_plus (b ∷ d ∷ bs) = cond (b == 43 && (nat_le 48 d && nat_le d 57)) (d ∷ bs) (b ∷ d ∷ bs)

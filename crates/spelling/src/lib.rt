@@ -8,5 +8,5 @@ mod word;
 
 pub use options::Options;
 pub use size::{is_size, pages_in};
-pub use spelling::{is, is_plain, numeral};
+pub use spelling::{is_plain, numeral};
 pub use word::Word;

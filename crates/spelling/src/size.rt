@@ -10,7 +10,7 @@ const MOST: u64 = 1_048_576;
 pub fn is_size(pages: u64) -> bool
     ensures { result ≡ fits_size pages }
 {
-    FEWEST <= pages && pages <= MOST
+    (FEWEST..=MOST).contains(&pages)
 }
 
 // The number of pages in so many bytes, if a device may have it.

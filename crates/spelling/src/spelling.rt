@@ -1,17 +1,9 @@
 // What a word spells: a number, or a name.
 ghost use Rattle.std.specs.Prelude.{◌≡◌};
-ghost use Rattle.std.specs.Str.{bytes_eq};
 ghost use Rattle.spelling.specs.Spelling.{longer, number_of, numeral_of, plainly};
 ghost use Rattle.spelling.specs.Word.{spelled};
 
 use crate::word::Word;
-
-// Are two rows of bytes the same?
-pub fn is(bytes: &[u8], name: &[u8]) -> bool
-    ensures { result ≡ bytes_eq bytes.now name.now }
-{
-    bytes == name
-}
 
 // A number with one decimal digit more.
 fn with_digit(n: u64, b: u8) -> Option<u64>
@@ -24,6 +16,7 @@ fn with_digit(n: u64, b: u8) -> Option<u64>
 }
 
 // The number that a row of decimal digits spells, if it is below 2^64.
+#[tactic(auto, unfolding(crate::specs::Spelling::digits_from))]
 pub fn number(digits: &[u8]) -> Option<u64>
     ensures { result ≡ number_of digits.now }
 {
@@ -51,5 +44,5 @@ pub fn numeral(word: &Word) -> Option<u64>
 pub fn is_plain(word: &Word, name: &[u8]) -> bool
     ensures { result ≡ plainly (spelled word.now) name.now }
 {
-    !word.quoted && is(word.bytes.as_slice(), name)
+    !word.quoted && word.bytes.as_slice() == name
 }

@@ -1,4 +1,0 @@
-pub mod CommandLaws
-pub mod NumberLaws
-pub mod OrderLaws
-pub mod WordsLaws

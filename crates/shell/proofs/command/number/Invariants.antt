@@ -1,7 +1,0 @@
-use Rattle.std.proofs.Common.{◌≡◌, drop}
-use Rattle.shell.specs.Commands.{digits_from}
-use Rattle.shell.proofs.command.number.Given as goal
-
--- what is left of the digits gives the number that the whole spells
-abbrev pub invariant-loop-b : goal.invariant-loop-b
-invariant-loop-b l = digits_from l.n (drop l.b-index l.digits) ≡ digits_from 0 l.digits
