@@ -9,6 +9,7 @@ use crate::get::get;
 use crate::told::Told;
 use crate::write::write;
 use memtable::empty;
+use value::Version;
 
 // How many numbers the machine's memory has.
 pub const MEMORY: usize = 147520;
@@ -75,8 +76,26 @@ fn take_turn(
 {
     match kind {
         0 => power(memory, n),
-        1 => write(memory, control, one, n, false, two),
-        2 => write(memory, control, one, n, true, &[]),
+        1 => write(
+            memory,
+            control,
+            Version {
+                key: one,
+                moment: n,
+                gone: false,
+                value: two,
+            },
+        ),
+        2 => write(
+            memory,
+            control,
+            Version {
+                key: one,
+                moment: n,
+                gone: true,
+                value: &[],
+            },
+        ),
         3 => get(memory, control, one, n, out),
         12 => go_on(memory, control),
         _ => Told::No(2),

@@ -1,11 +1,12 @@
 // Writing and erasing: the checks in their order, each of which hands on its value or leaves with its number; then the version goes into memory.
 ghost use Rattle.std.specs.Prelude.{◌≡◌, length};
-ghost use Rattle.value.specs.Versions.{version};
+ghost use Rattle.value.specs.Said.{said};
 ghost use Rattle.store.specs.Write.{key_size, value_size, proper_moment, not_earlier, unwritten as unwritten_at, roomy as roomy_for, within_pages, in_arena, in_index, put_in, Wrote};
 
 use crate::control::{Control, Phase, save};
 use crate::told::Told;
 use memtable::{Memtable, append, enter};
+use value::Version;
 
 // The length of a key that may be written.
 fn key_size(key: &[u8]) -> Option<u64>
@@ -81,11 +82,11 @@ fn within_pages(pages: u64, weight: u64) -> Option<u64>
     }
 }
 
-fn put_in_arena(memory: &mut [u64], used: u64, key: &[u8], moment: u64, gone: bool, value: &[u8])
+fn put_in_arena(memory: &mut [u64], used: u64, version: Version<'_>)
     requires { length memory.old ≡ 147520 }
-    ensures { memory.new ≡ in_arena used (version key.now moment gone value.now) memory.old }
+    ensures { memory.new ≡ in_arena used (said version.entry) memory.old }
 {
-    append(&mut memory[16448..147520], used, key, moment, gone, value);
+    append(&mut memory[16448..147520], used, version);
 }
 
 fn put_in_index(memory: &mut [u64], table: Memtable, place: u64)
@@ -100,21 +101,18 @@ fn put_version(
     control: Control,
     place: u64,
     table: Memtable,
-    key: &[u8],
-    moment: u64,
-    gone: bool,
-    value: &[u8],
+    version: Version<'_>,
 )
     requires { length memory.old ≡ 147520 }
-    ensures { memory.new ≡ put_in control place table (version key.now moment gone value.now) memory.old }
+    ensures { memory.new ≡ put_in control place table (said version.entry) memory.old }
 {
-    put_in_arena(memory, control.table.used, key, moment, gone, value);
+    put_in_arena(memory, control.table.used, version);
     put_in_index(memory, control.table, place);
     save(
         memory,
         Control {
             phase: Phase::Idle,
-            last: moment,
+            last: version.moment,
             table,
             ..control
         },
@@ -122,30 +120,23 @@ fn put_version(
 }
 
 // Writes a version into memory, or says why not.
-pub fn write(
-    memory: &mut [u64],
-    control: Control,
-    key: &[u8],
-    moment: u64,
-    gone: bool,
-    value: &[u8],
-) -> Told
+pub fn write(memory: &mut [u64], control: Control, version: Version<'_>) -> Told
     requires { length memory.old ≡ 147520 }
-    ensures { Wrote control memory.old (version key.now moment gone value.now) result memory.new }
+    ensures { Wrote control memory.old (said version.entry) result memory.new }
 {
-    let Some(key_len) = key_size(key) else {
+    let Some(key_len) = key_size(version.key) else {
         return Told::No(6);
     };
-    let Some(value_len) = value_size(value) else {
+    let Some(value_len) = value_size(version.value) else {
         return Told::No(6);
     };
-    let Some(moment) = proper_moment(moment) else {
+    let Some(moment) = proper_moment(version.moment) else {
         return Told::No(6);
     };
     let Some(moment) = not_earlier(control.last, moment) else {
         return Told::No(3);
     };
-    let Some(place) = unwritten(control.table, memory, key, moment) else {
+    let Some(place) = unwritten(control.table, memory, version.key, moment) else {
         return Told::No(3);
     };
     let Some(table) = roomy(control.table, key_len, value_len) else {
@@ -154,6 +145,6 @@ pub fn write(
     let Some(_) = within_pages(control.pages, table.weight) else {
         return Told::No(8);
     };
-    put_version(memory, control, place, table, key, moment, gone, value);
+    put_version(memory, control, place, table, Version { moment, ..version });
     Told::Done
 }

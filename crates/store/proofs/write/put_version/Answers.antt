@@ -8,5 +8,5 @@ pub returns : goal.returns
 unfolding put_in
 returns c =
     c.save.ensures
-    ∙ ap (λ x. put_control x (control Idle c.args.control.pages c.args.moment c.args.table))
+    ∙ ap (λ x. put_control x (control Idle c.args.control.pages c.args.version.moment c.args.table))
     (c.put_in_index.ensures ∙ ap (in_index c.args.control.table c.args.place) c.put_in_arena.ensures)
