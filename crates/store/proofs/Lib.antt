@@ -16,3 +16,4 @@ pub mod OwnAccount
 pub mod WriteServes
 pub mod GetServes
 pub mod OwnLaws
+pub mod ToldLaws

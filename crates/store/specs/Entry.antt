@@ -22,6 +22,10 @@ StepSays memory kind n as₁ bs out true r memory₁ out₁ =
     (memory₁ ≡ (own.step memory (event_of kind n as₁ bs)).memory) × ActTold (own.step memory (event_of kind n as₁ bs)).act r out out₁
 StepSays memory kind n as₁ bs out false r memory₁ out₁ = (r ≡ No 0) × (memory₁ ≡ memory) × (out₁ ≡ out)
 
+-- an event that is taken: a number that is known, and up to 4,096 bytes in each row
+abbrev pub event_fits : ℕ → (as₁ bs : List ℕ) → Bool
+event_fits kind as₁ bs = nat_le kind 12 && (nat_le (length as₁) 4096 && nat_le (length bs) 4096)
+
 unfoldable pub step_fits : (memory : List ℕ) (kind : ℕ) (as₁ bs out : List ℕ) → Bool
 step_fits memory kind as₁ bs out =
     (length memory == length own.start) && (nat_le kind 12 && ((nat_le (length as₁) 4096 && nat_le (length bs) 4096) && nat_le 1280 (length out)))

@@ -4,6 +4,12 @@ ghost use Rattle.store.specs.Control.{phase_of, phase_number, control_of, put_co
 
 use memtable::Memtable;
 
+// How many numbers the machine's memory has.
+pub const MEMORY: usize = 147520;
+
+// How many numbers a step may tell, in a lent row.
+pub const ROW: usize = 1280;
+
 // What is under way between two events.
 #[derive(Clone, Copy)]
 pub enum Phase {
@@ -40,8 +46,7 @@ fn phase_word(phase: Phase) -> u64
     }
 }
 
-pub fn load(memory: &[u64]) -> Control
-    requires { length memory.now ≡ 147520 }
+pub fn load(memory: &[u64; MEMORY]) -> Control
     ensures { result ≡ control_of memory.now }
 {
     Control {
@@ -56,8 +61,7 @@ pub fn load(memory: &[u64]) -> Control
     }
 }
 
-pub fn save(memory: &mut [u64], control: Control)
-    requires { length memory.old ≡ 147520 }
+pub fn save(memory: &mut [u64; MEMORY], control: Control)
     ensures { memory.new ≡ put_control memory.old control }
 {
     memory[0] = phase_word(control.phase);

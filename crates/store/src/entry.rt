@@ -2,32 +2,24 @@
 ghost use Rattle.std.specs.Prelude.{◌≡◌, ℕ, ◌≤◌, List, length};
 ghost use Rattle.store.specs.Get.{Got};
 ghost use Rattle.store.specs.Own.{powered, went_on, turned};
-ghost use Rattle.store.specs.Entry.{StepSays, step_fits, event_of};
+ghost use Rattle.store.specs.Entry.{StepSays, step_fits, event_fits, event_of};
 
-use crate::control::{Control, Phase, load, save};
+use crate::control::{Control, MEMORY, Phase, ROW, load, save};
 use crate::get::get;
 use crate::told::Told;
 use crate::write::write;
 use memtable::empty;
 use value::Version;
 
-// How many numbers the machine's memory has.
-pub const MEMORY: usize = 147520;
-
-// Are the rows of the lengths that a step takes?
-fn fits(memory: &[u64], kind: u64, one: &[u8], two: &[u8], out: &[u64]) -> bool
-    ensures { result ≡ step_fits memory.now kind one.now two.now out.now }
+// Are the event's number and its rows such as a step takes?
+fn fits(kind: u64, one: &[u8], two: &[u8]) -> bool
+    ensures { result ≡ event_fits kind one.now two.now }
 {
-    memory.len() == MEMORY
-        && kind <= 12
-        && one.len() <= 4096
-        && two.len() <= 4096
-        && out.len() >= 1280
+    kind <= 12 && one.len() <= 4096 && two.len() <= 4096
 }
 
 // Power is there: nothing is kept yet.
-fn power(memory: &mut [u64], pages: u64) -> Told
-    requires { length memory.old ≡ 147520 }
+fn power(memory: &mut [u64; MEMORY], pages: u64) -> Told
     ensures { (out : List ℕ) → Got (powered memory.old pages) result out memory.new out }
 {
     save(
@@ -43,8 +35,7 @@ fn power(memory: &mut [u64], pages: u64) -> Told
 }
 
 // Goes on with what is under way.
-fn go_on(memory: &mut [u64], control: Control) -> Told
-    requires { length memory.old ≡ 147520 }
+fn go_on(memory: &mut [u64; MEMORY], control: Control) -> Told
     ensures { (out : List ℕ) → Got (went_on control memory.old control.phase) result out memory.new out }
 {
     match control.phase {
@@ -63,16 +54,17 @@ fn go_on(memory: &mut [u64], control: Control) -> Told
 }
 
 fn take_turn(
-    memory: &mut [u64],
+    memory: &mut [u64; MEMORY],
     control: Control,
     kind: u64,
     n: u64,
     one: &[u8],
     two: &[u8],
-    out: &mut [u64],
+    out: &mut [u64; ROW],
 ) -> Told
-    requires { (length memory.old ≡ 147520) × ((1280 ≤ length out.old) × (kind ≤ 12)) }
-    ensures { Got (turned control memory.old (event_of kind n one.now two.now)) result out.old memory.new out.new }
+    requires { kind ≤ 12 }
+    ensures whole { length out.new ≡ length out.old }
+    ensures says { Got (turned control memory.old (event_of kind n one.now two.now)) result out.old memory.new out.new }
 {
     match kind {
         0 => power(memory, n),
@@ -105,7 +97,13 @@ fn take_turn(
 pub fn step(memory: &mut [u64], kind: u64, n: u64, one: &[u8], two: &[u8], out: &mut [u64]) -> Told
     ensures { StepSays memory.old kind n one.now two.now out.old (step_fits memory.old kind one.now two.now out.old) result memory.new out.new }
 {
-    if !fits(memory, kind, one, two, out) {
+    let Some(memory) = memory.as_mut_array::<MEMORY>() else {
+        return Told::No(0);
+    };
+    let Some(out) = out.first_chunk_mut::<ROW>() else {
+        return Told::No(0);
+    };
+    if !fits(kind, one, two) {
         return Told::No(0);
     }
     let control = load(memory);

@@ -2,13 +2,12 @@
 ghost use Rattle.std.specs.Prelude.{◌≡◌, ◌<◌, ◌≤◌, ◌++◌, length, drop, slice_index};
 ghost use Rattle.store.specs.Get.{row_at, sought, got, Got};
 
-use crate::control::{Control, Phase, save};
+use crate::control::{Control, MEMORY, Phase, ROW, save};
 use crate::told::Told;
 use memtable::{is_gone, key_byte, key_len, value_byte, value_len};
 
 // The place in the arena of the version that a reading wants.
-fn find(memory: &[u64], control: Control, key: &[u8], moment: u64) -> Option<u64>
-    requires { length memory.now ≡ 147520 }
+fn find(memory: &[u64; MEMORY], control: Control, key: &[u8], moment: u64) -> Option<u64>
     ensures { result ≡ sought control memory.now key.now moment }
 {
     control
@@ -38,8 +37,7 @@ fn row_byte(arena: &[u64], place: u64, i: u64) -> u64
     u64::from(value_byte(arena, place, i - 1 - len))
 }
 
-fn write_row(arena: &[u64], place: u64, out: &mut [u64]) -> u64
-    requires { 1280 ≤ length out.old }
+fn write_row(arena: &[u64], place: u64, out: &mut [u64; ROW]) -> u64
     ensures len { result ≡ length (row_at arena.now place) }
     ensures row { out.new ≡ row_at arena.now place ++ drop (length (row_at arena.now place)) out.old }
 {
@@ -50,8 +48,13 @@ fn write_row(arena: &[u64], place: u64, out: &mut [u64]) -> u64
     len
 }
 
-pub fn get(memory: &mut [u64], control: Control, key: &[u8], moment: u64, out: &mut [u64]) -> Told
-    requires { (length memory.old ≡ 147520) × (1280 ≤ length out.old) }
+pub fn get(
+    memory: &mut [u64; MEMORY],
+    control: Control,
+    key: &[u8],
+    moment: u64,
+    out: &mut [u64; ROW],
+) -> Told
     ensures { Got (got control memory.old key.now moment) result out.old memory.new out.new }
 {
     let Some(place) = find(memory, control, key, moment) else {

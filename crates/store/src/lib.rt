@@ -8,6 +8,7 @@ mod laws;
 mod told;
 mod write;
 
-pub use entry::{MEMORY, step};
+pub use control::{MEMORY, ROW};
+pub use entry::step;
 pub use laws::{nothing_new, own_is_whole, settled_stays, steps_suffice, stop_twice, worked_out};
 pub use told::Told;

@@ -3,7 +3,7 @@ ghost use Rattle.std.specs.Prelude.{◌≡◌, length};
 ghost use Rattle.value.specs.Said.{said};
 ghost use Rattle.store.specs.Write.{key_size, value_size, proper_moment, not_earlier, unwritten as unwritten_at, roomy as roomy_for, within_pages, in_arena, in_index, put_in, Wrote};
 
-use crate::control::{Control, Phase, save};
+use crate::control::{Control, MEMORY, Phase, save};
 use crate::told::Told;
 use memtable::{Memtable, append, enter};
 use value::Version;
@@ -49,8 +49,7 @@ fn not_earlier(last: u64, moment: u64) -> Option<u64>
 }
 
 // Where a version goes in the index, if its key was not written at this moment.
-fn unwritten(table: Memtable, memory: &[u64], key: &[u8], moment: u64) -> Option<u64>
-    requires { length memory.now ≡ 147520 }
+fn unwritten(table: Memtable, memory: &[u64; MEMORY], key: &[u8], moment: u64) -> Option<u64>
     ensures { result ≡ unwritten_at table memory.now key.now moment }
 {
     let index = &memory[64..16448];
@@ -82,28 +81,25 @@ fn within_pages(pages: u64, weight: u64) -> Option<u64>
     }
 }
 
-fn put_in_arena(memory: &mut [u64], used: u64, version: Version<'_>)
-    requires { length memory.old ≡ 147520 }
+fn put_in_arena(memory: &mut [u64; MEMORY], used: u64, version: Version<'_>)
     ensures { memory.new ≡ in_arena used (said version.entry) memory.old }
 {
     append(&mut memory[16448..147520], used, version);
 }
 
-fn put_in_index(memory: &mut [u64], table: Memtable, place: u64)
-    requires { length memory.old ≡ 147520 }
+fn put_in_index(memory: &mut [u64; MEMORY], table: Memtable, place: u64)
     ensures { memory.new ≡ in_index table place memory.old }
 {
     enter(&mut memory[64..16448], table.versions, place, table.used);
 }
 
 fn put_version(
-    memory: &mut [u64],
+    memory: &mut [u64; MEMORY],
     control: Control,
     place: u64,
     table: Memtable,
     version: Version<'_>,
 )
-    requires { length memory.old ≡ 147520 }
     ensures { memory.new ≡ put_in control place table (said version.entry) memory.old }
 {
     put_in_arena(memory, control.table.used, version);
@@ -120,8 +116,7 @@ fn put_version(
 }
 
 // Writes a version into memory, or says why not.
-pub fn write(memory: &mut [u64], control: Control, version: Version<'_>) -> Told
-    requires { length memory.old ≡ 147520 }
+pub fn write(memory: &mut [u64; MEMORY], control: Control, version: Version<'_>) -> Told
     ensures { Wrote control memory.old (said version.entry) result memory.new }
 {
     let Some(key_len) = key_size(version.key) else {
