@@ -1,5 +1,5 @@
 -- One step of the running code is one step of the machine's definition.
-use Rattle.std.proofs.Common.{◌≡◌, ℕ, ◌≤◌, true, false, List, [], length, sym, refl, subst, arith, eq-eqb}
+use Rattle.std.proofs.Common.{◌≡◌, ℕ, ◌≤◌, ◌<◌, true, false, List, [], ◌++◌, length, drop, sym, refl, subst, arith, eq-eqb}
 use Rattle.std.proofs.lemmas.Bool.Decides.{nat_tests}
 use Rattle.std.proofs.lemmas.List.{length-replicate}
 use Rattle.value.specs.Versions.{version}
@@ -20,32 +20,47 @@ use Rattle.flushing_store.specs.declared.control.Phase.{Phase}
 use Rattle.flushing_store.specs.declared.control.Phase.TheVariants.{Idle, Shown, FirstList, AfterWhole, AfterTorn, Getting, Writing, Merging, Closed, Placed, Settled, Listed, Committed}
 use Rattle.flushing_store.specs.declared.control.Control.{Control}
 use Rattle.store.specs.Acts.{ActTold}
-use Rattle.store.specs.Entry.{event_of}
+use Rattle.std.specs.Array.{IsWholeChunk, IsFirstChunk}
+use Rattle.store.specs.Entry.{event_fits, event_of}
+use Rattle.store.proofs.ToldLaws.{told_in_row}
 
 pub start_length : length own.start ≡ 152520
 unfolding own blank_memory
 start_length = length-replicate {A = ℕ} 152520 0
 
-pub record Fits (m : List ℕ) (kind : ℕ) (out : List ℕ) : Type 0 where
-  pub memory : length m ≡ 152520
-  pub kinds : kind ≤ 12
-  pub room : 1280 ≤ length out
+-- what does not fit
+module _ (m : List ℕ) (kind : ℕ) (as₁ bs out : List ℕ) where
+  pub wrong_memory : (length m ≡ 152520 → ⊥) → false ≡ step_fits m kind as₁ bs out
+  unfolding step_fits
+  wrong_memory h = grind (arith, nat_tests, start_length)
 
-pub fits_all : (m : List ℕ) (kind : ℕ) (as₁ bs out : List ℕ) → true ≡ step_fits m kind as₁ bs out → Fits m kind out
-unfolding step_fits
-fits_all m kind as₁ bs out e = record { memory = grind (arith, nat_tests, start_length); kinds = grind (arith, nat_tests); room = grind (arith, nat_tests) }
+  pub short_row : length out < 1280 → false ≡ step_fits m kind as₁ bs out
+  unfolding step_fits
+  short_row h = grind (arith, nat_tests, start_length)
 
-pub misfit_says : (m : List ℕ) (kind n : ℕ) (as₁ bs out : List ℕ) → false ≡ step_fits m kind as₁ bs out → StepSays m kind n as₁ bs out (step_fits m kind as₁ bs out) (No 0) m out
+  pub wrong_event : false ≡ event_fits kind as₁ bs → false ≡ step_fits m kind as₁ bs out
+  unfolding step_fits
+  wrong_event h = grind (arith, nat_tests, start_length)
+
+  pub all_fits : length m ≡ 152520 → 1280 ≤ length out → true ≡ event_fits kind as₁ bs → true ≡ step_fits m kind as₁ bs out
+  unfolding step_fits
+  all_fits h l e = grind (arith, nat_tests, start_length)
+
+pub misfit_says :
+    (m : List ℕ) (kind n : ℕ) (as₁ bs out m₁ out₁ : List ℕ) → false ≡ step_fits m kind as₁ bs out → m₁ ≡ m → out₁ ≡ out →
+    StepSays m kind n as₁ bs out (step_fits m kind as₁ bs out) (No 0) m₁ out₁
 unfolding StepSays
-misfit_says m kind n as₁ bs out e = rw (sym e) (refl, refl, refl)
+misfit_says m kind n as₁ bs out m₁ out₁ e f g = rw (sym e) (refl, f, g)
 
+-- w is memory as an array, and o the front of the row
 pub turn_says :
-    (m : List ℕ) (kind n : ℕ) (as₁ bs out m₁ out₁ : List ℕ) (r : Told) (k : Control) → true ≡ step_fits m kind as₁ bs out → k ≡ control_of m →
-    Does (turned k m (event_of kind n as₁ bs)) r out m₁ out₁ → StepSays m kind n as₁ bs out (step_fits m kind as₁ bs out) r m₁ out₁
+    (m : List ℕ) (kind n : ℕ) (as₁ bs out w o m₁ out₁ : List ℕ) (r : Told) (k : Control) → IsWholeChunk m w 152520 → IsFirstChunk out o 1280 → length out₁ ≡ length o →
+    true ≡ event_fits kind as₁ bs → k ≡ control_of w → Does (turned k w (event_of kind n as₁ bs)) r o m₁ out₁ →
+    StepSays m kind n as₁ bs out (step_fits m kind as₁ bs out) r m₁ (out₁ ++ drop 1280 out)
 unfolding StepSays own
-turn_says m kind n as₁ bs out m₁ out₁ r k e f g =
-    let l = (fits_all m kind as₁ bs out e).memory in
-    rw (sym e, eq-eqb (length m) 152520 l, sym f) (g.0, g.1)
+turn_says m kind n as₁ bs out w o m₁ out₁ r k l h whole e f g =
+    let t = told_in_row r 1280 out o out₁ h whole (turned k w (event_of kind n as₁ bs)).act g.1 in
+    rw (sym (all_fits m kind as₁ bs out l.long h.enough e), eq-eqb (length m) 152520 l.long, sym l.same, sym f) (g.0, t)
 
 -- by the phase
 module _ (k : Control) (m out m₁ out₁ : List ℕ) (r : Told) where

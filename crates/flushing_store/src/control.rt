@@ -3,6 +3,9 @@ use manifest::Manifest;
 use memtable::Memtable;
 use table::{Cursor, Lookup, Writer};
 
+// How many numbers the machine's memory has.
+pub const MEMORY: usize = 152520;
+
 // What is under way between two events.
 #[derive(Clone, Copy)]
 pub enum Phase {

@@ -2,35 +2,28 @@
 ghost use Rattle.std.specs.Prelude.{◌≡◌, ◌≤◌, length};
 ghost use Rattle.flushing_store.specs.Acts.{Does};
 ghost use Rattle.flushing_store.specs.Own.{went_on, paged, turned};
-ghost use Rattle.store.specs.Entry.{event_of};
+ghost use Rattle.store.specs.Entry.{event_fits, event_of};
 ghost use Rattle.flushing_store.specs.Entry.{StepSays, step_fits};
 
-use crate::control::{Control, Phase};
+use crate::control::{Control, MEMORY, Phase};
 use crate::flush::{commit, flush, merge_on, merge_page, put_last, put_new_list};
 use crate::get::{get, get_on};
 use crate::octets::cut_into;
 use crate::power::{first_list, power, second_list};
 use crate::words::{load, turn_to};
 use crate::write::{write, write_on};
-use store::Told;
+use store::{ROW, Told};
+use value::Version;
 
-// How many numbers the machine's memory has.
-pub const MEMORY: usize = 152520;
-
-// Are the rows of the lengths that a step takes?
-fn fits(memory: &[u64], kind: u64, one: &[u8], two: &[u8], out: &[u64]) -> bool
-    ensures { result ≡ step_fits memory.now kind one.now two.now out.now }
+// Are the event's number and its rows such as a step takes?
+fn fits(kind: u64, one: &[u8], two: &[u8]) -> bool
+    ensures { result ≡ event_fits kind one.now two.now }
 {
-    memory.len() == MEMORY
-        && kind <= 12
-        && one.len() <= 4096
-        && two.len() <= 4096
-        && out.len() >= 1280
+    kind <= 12 && one.len() <= 4096 && two.len() <= 4096
 }
 
 // Goes on with what is under way.
-fn go_on(memory: &mut [u64], control: Control, out: &mut [u64]) -> Told
-    requires { (length memory.old ≡ 152520) × (1280 ≤ length out.old) }
+fn go_on(memory: &mut [u64; MEMORY], control: Control, out: &mut [u64; ROW]) -> Told
     ensures { Does (went_on control memory.old control.base.phase) result out.old memory.new out.new }
 {
     match control.base.phase {
@@ -55,8 +48,12 @@ fn go_on(memory: &mut [u64], control: Control, out: &mut [u64]) -> Told
 }
 
 // A page came that was asked for.
-fn take_page(memory: &mut [u64], control: Control, bytes: &[u8], out: &mut [u64]) -> Told
-    requires { (length memory.old ≡ 152520) × (1280 ≤ length out.old) }
+fn take_page(
+    memory: &mut [u64; MEMORY],
+    control: Control,
+    bytes: &[u8],
+    out: &mut [u64; ROW],
+) -> Told
     ensures { Does (paged control memory.old bytes.now control.base.phase) result out.old memory.new out.new }
 {
     let mut page = [0u8; 512];
@@ -73,21 +70,40 @@ fn take_page(memory: &mut [u64], control: Control, bytes: &[u8], out: &mut [u64]
 }
 
 fn take_turn(
-    memory: &mut [u64],
+    memory: &mut [u64; MEMORY],
     control: Control,
     kind: u64,
     n: u64,
     one: &[u8],
     two: &[u8],
-    out: &mut [u64],
+    out: &mut [u64; ROW],
 ) -> Told
-    requires { (length memory.old ≡ 152520) × ((1280 ≤ length out.old) × (kind ≤ 12)) }
-    ensures { Does (turned control memory.old (event_of kind n one.now two.now)) result out.old memory.new out.new }
+    requires { kind ≤ 12 }
+    ensures whole { length out.new ≡ length out.old }
+    ensures says { Does (turned control memory.old (event_of kind n one.now two.now)) result out.old memory.new out.new }
 {
     match kind {
         0 => power(memory, control, n),
-        1 => write(memory, control, one, n, false, two),
-        2 => write(memory, control, one, n, true, &[]),
+        1 => write(
+            memory,
+            control,
+            Version {
+                key: one,
+                moment: n,
+                gone: false,
+                value: two,
+            },
+        ),
+        2 => write(
+            memory,
+            control,
+            Version {
+                key: one,
+                moment: n,
+                gone: true,
+                value: &[],
+            },
+        ),
         3 => get(memory, control, one, n, out),
         9 => flush(memory, control, out),
         11 => take_page(memory, control, two, out),
@@ -99,7 +115,13 @@ fn take_turn(
 pub fn step(memory: &mut [u64], kind: u64, n: u64, one: &[u8], two: &[u8], out: &mut [u64]) -> Told
     ensures { StepSays memory.old kind n one.now two.now out.old (step_fits memory.old kind one.now two.now out.old) result memory.new out.new }
 {
-    if !fits(memory, kind, one, two, out) {
+    let Some(memory) = memory.as_mut_array::<MEMORY>() else {
+        return Told::No(0);
+    };
+    let Some(out) = out.first_chunk_mut::<ROW>() else {
+        return Told::No(0);
+    };
+    if !fits(kind, one, two) {
         return Told::No(0);
     }
     let control = load(memory);

@@ -3,7 +3,7 @@ ghost use Rattle.std.specs.Prelude.{◌≡◌, ◌≤◌, length};
 ghost use Rattle.flushing_store.specs.Acts.{Does, Quiet};
 ghost use Rattle.flushing_store.specs.Flush.{is_more, spun, performed, flushed_step, page_merged, merged_on, last_step, listed_step, committed_step};
 
-use crate::control::{Base, Control, Merging, Phase};
+use crate::control::{Base, Control, MEMORY, Merging, Phase};
 use crate::look::extent_of;
 use crate::put::{put_list, put_page};
 use crate::round::{put_positions, round};
@@ -12,7 +12,7 @@ use crate::turn::{Deed, Turn};
 use crate::words::save;
 use manifest::slot;
 use memtable::empty;
-use store::Told;
+use store::{ROW, Told};
 use table::{Cursor, Want, Writer};
 
 fn is_more(deed: Deed) -> bool
@@ -25,8 +25,7 @@ fn is_more(deed: Deed) -> bool
 }
 
 // Rounds until something is to be done: at most 1,010 fill a page.
-fn spin(memory: &mut [u64], control: Control) -> Turn
-    requires { length memory.old ≡ 152520 }
+fn spin(memory: &mut [u64; MEMORY], control: Control) -> Turn
     ensures turn { result ≡ (spun 1024 control memory.old).turn }
     ensures memory { memory.new ≡ (spun 1024 control memory.old).memory }
 {
@@ -44,8 +43,7 @@ fn spin(memory: &mut [u64], control: Control) -> Turn
 }
 
 // Does what a turn wants done.
-fn perform(memory: &mut [u64], turn: Turn, out: &mut [u64]) -> Told
-    requires { (length memory.old ≡ 152520) × (1280 ≤ length out.old) }
+fn perform(memory: &mut [u64; MEMORY], turn: Turn, out: &mut [u64; ROW]) -> Told
     ensures { Does (performed turn.control turn.deed memory.old) result out.old memory.new out.new }
 {
     let told = match turn.deed {
@@ -66,16 +64,14 @@ fn perform(memory: &mut [u64], turn: Turn, out: &mut [u64]) -> Told
 }
 
 // Goes on with the merge.
-pub fn merge_on(memory: &mut [u64], control: Control, out: &mut [u64]) -> Told
-    requires { (length memory.old ≡ 152520) × (1280 ≤ length out.old) }
+pub fn merge_on(memory: &mut [u64; MEMORY], control: Control, out: &mut [u64; ROW]) -> Told
     ensures { Does (merged_on control memory.old) result out.old memory.new out.new }
 {
     let turn = spin(memory, control);
     perform(memory, turn, out)
 }
 
-pub fn flush(memory: &mut [u64], control: Control, out: &mut [u64]) -> Told
-    requires { (length memory.old ≡ 152520) × (1280 ≤ length out.old) }
+pub fn flush(memory: &mut [u64; MEMORY], control: Control, out: &mut [u64; ROW]) -> Told
     ensures { Does (flushed_step control memory.old) result out.old memory.new out.new }
 {
     if control.base.table.versions == 0 {
@@ -103,8 +99,7 @@ pub fn flush(memory: &mut [u64], control: Control, out: &mut [u64]) -> Told
 }
 
 // A page of the table came.
-fn take_table_page(memory: &mut [u64], control: Control, page: &[u8]) -> Control
-    requires { length memory.old ≡ 152520 }
+fn take_table_page(memory: &mut [u64; MEMORY], control: Control, page: &[u8]) -> Control
     ensures state { result ≡ (page_merged control memory.old page.now).turn.control }
     ensures memory { memory.new ≡ (page_merged control memory.old page.now).memory }
 {
@@ -123,8 +118,12 @@ fn take_table_page(memory: &mut [u64], control: Control, page: &[u8]) -> Control
 }
 
 // The same, and the merge goes on.
-pub fn merge_page(memory: &mut [u64], control: Control, page: &[u8], out: &mut [u64]) -> Told
-    requires { (length memory.old ≡ 152520) × (1280 ≤ length out.old) }
+pub fn merge_page(
+    memory: &mut [u64; MEMORY],
+    control: Control,
+    page: &[u8],
+    out: &mut [u64; ROW],
+) -> Told
     ensures { Does (merged_on (page_merged control memory.old page.now).turn.control (page_merged control memory.old page.now).memory) result out.old memory.new out.new }
 {
     let control = take_table_page(memory, control, page);
@@ -132,8 +131,7 @@ pub fn merge_page(memory: &mut [u64], control: Control, page: &[u8], out: &mut [
 }
 
 // The last page of data was put: the last page of positions is.
-pub fn put_last(memory: &mut [u64], control: Control, out: &mut [u64]) -> Told
-    requires { (length memory.old ≡ 152520) × (1280 ≤ length out.old) }
+pub fn put_last(memory: &mut [u64; MEMORY], control: Control, out: &mut [u64; ROW]) -> Told
     ensures { Does (last_step control memory.old) result out.old memory.new out.new }
 {
     let base = Base {
@@ -144,8 +142,7 @@ pub fn put_last(memory: &mut [u64], control: Control, out: &mut [u64]) -> Told
 }
 
 // The new table is settled: the list that names it is put.
-pub fn put_new_list(memory: &mut [u64], control: Control, out: &mut [u64]) -> Told
-    requires { (length memory.old ≡ 152520) × (1280 ≤ length out.old) }
+pub fn put_new_list(memory: &mut [u64; MEMORY], control: Control, out: &mut [u64; ROW]) -> Told
     ensures { Does (listed_step control memory.old) result out.old memory.new out.new }
 {
     let list = next_list(control);
@@ -159,8 +156,7 @@ pub fn put_new_list(memory: &mut [u64], control: Control, out: &mut [u64]) -> To
 }
 
 // The new list is settled: it holds from now on, and nothing is in memory that is not safe.
-pub fn commit(memory: &mut [u64], control: Control) -> Told
-    requires { length memory.old ≡ 152520 }
+pub fn commit(memory: &mut [u64; MEMORY], control: Control) -> Told
     ensures { Quiet (committed_step control memory.old) result memory.new }
 {
     let base = Base {

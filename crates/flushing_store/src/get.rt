@@ -3,18 +3,18 @@ ghost use Rattle.std.specs.Prelude.{◌≡◌, ◌<◌, ◌≤◌, ◌++◌, len
 ghost use Rattle.flushing_store.specs.Acts.{Does, Quiet};
 ghost use Rattle.flushing_store.specs.Get.{sought, got, got_below, got_by, got_on};
 
-use crate::control::{Base, Control, Phase};
+use crate::control::{Base, Control, MEMORY, Phase};
 use crate::look::{Looked, ask, extent_of, look_staged, take_page};
 use crate::shown::{write_place, write_row};
 use crate::stage::stage;
 use crate::words::turn_to;
 use memtable::{is_gone, moment_at};
-use store::Told;
+use store::{ROW, Told};
 use table::{Lookup, begin, read_octets};
+use value::Version;
 
 // The place in the arena of the version that a reading wants.
-fn find(memory: &[u64], control: Control, key: &[u8], moment: u64) -> Option<u64>
-    requires { length memory.now ≡ 152520 }
+fn find(memory: &[u64; MEMORY], control: Control, key: &[u8], moment: u64) -> Option<u64>
     ensures { result ≡ sought control memory.now key.now moment }
 {
     control
@@ -24,8 +24,7 @@ fn find(memory: &[u64], control: Control, key: &[u8], moment: u64) -> Option<u64
 }
 
 // Memory does not decide: the table is looked through, unless no key there can be this one.
-fn get_below(memory: &mut [u64], control: Control, key: &[u8], moment: u64) -> Told
-    requires { length memory.old ≡ 152520 }
+fn get_below(memory: &mut [u64; MEMORY], control: Control, key: &[u8], moment: u64) -> Told
     ensures { Quiet (got_below control memory.old key.now moment) result memory.new }
 {
     if key.len() < 1 || key.len() > 255 {
@@ -34,7 +33,15 @@ fn get_below(memory: &mut [u64], control: Control, key: &[u8], moment: u64) -> T
     let Some(lookup) = begin(extent_of(control.manifest)) else {
         return Told::Done;
     };
-    stage(memory, key, moment, false, &[]);
+    stage(
+        memory,
+        Version {
+            key,
+            moment,
+            gone: false,
+            value: &[],
+        },
+    );
     let base = Base {
         phase: Phase::Getting,
         ..control.base
@@ -42,8 +49,13 @@ fn get_below(memory: &mut [u64], control: Control, key: &[u8], moment: u64) -> T
     ask(memory, Control { base, ..control }, lookup)
 }
 
-pub fn get(memory: &mut [u64], control: Control, key: &[u8], moment: u64, out: &mut [u64]) -> Told
-    requires { (length memory.old ≡ 152520) × (1280 ≤ length out.old) }
+pub fn get(
+    memory: &mut [u64; MEMORY],
+    control: Control,
+    key: &[u8],
+    moment: u64,
+    out: &mut [u64; ROW],
+) -> Told
     ensures { Does (got control memory.old key.now moment) result out.old memory.new out.new }
 {
     let Some(place) = find(memory, control, key, moment) else {
@@ -58,8 +70,12 @@ pub fn get(memory: &mut [u64], control: Control, key: &[u8], moment: u64, out: &
 }
 
 // All pages came that were wanted: the version is shown, or there is none, or more is wanted.
-fn end_get(memory: &mut [u64], control: Control, lookup: Lookup, out: &mut [u64]) -> Told
-    requires { (length memory.old ≡ 152520) × (1280 ≤ length out.old) }
+fn end_get(
+    memory: &mut [u64; MEMORY],
+    control: Control,
+    lookup: Lookup,
+    out: &mut [u64; ROW],
+) -> Told
     ensures { Does (got_by control memory.old lookup) result out.old memory.new out.new }
 {
     let mut row = [0u8; 2016];
@@ -85,8 +101,12 @@ fn end_get(memory: &mut [u64], control: Control, lookup: Lookup, out: &mut [u64]
 }
 
 // A page came for a get.
-pub fn get_on(memory: &mut [u64], control: Control, page: &[u8], out: &mut [u64]) -> Told
-    requires { (length memory.old ≡ 152520) × (1280 ≤ length out.old) }
+pub fn get_on(
+    memory: &mut [u64; MEMORY],
+    control: Control,
+    page: &[u8],
+    out: &mut [u64; ROW],
+) -> Told
     ensures { Does (got_on control memory.old page.now) result out.old memory.new out.new }
 {
     let lookup = take_page(memory, control.lookup, page);

@@ -1,22 +1,23 @@
 // A version is handed over to the writer of a table: its bytes go to the hand, behind a bound where it begins a block, and the entry of the block that it ends
 // to the page of positions.
 ghost use Rattle.std.specs.Prelude.{◌≡◌, true, length, take};
-ghost use Rattle.value.specs.Versions.{version};
+ghost use Rattle.value.specs.Said.{said};
 ghost use Rattle.value.specs.Encoding.{in_limits};
 ghost use Rattle.table.specs.Layout.{entry};
 ghost use Rattle.flushing_store.specs.Give.{bound_after, brought, brought_length, ended_block, in_hand, given_writer, given_memory};
 
+use crate::control::MEMORY;
 use crate::octets::put_octets;
 use crate::stage::{read_key, stage};
 use memtable::moment_at;
+use std::cmp::Ordering;
 use table::{Open, Writer};
-use value::{Ordering, encode, order, part_of};
+use value::{Version, encode, order, part_of};
 
 const NO_BOUND: u64 = 0xffff_ffff_ffff_ffff;
 
 // The bound of a block that begins with this key: the moment of the version that was handed over last, if it has the same key.
-fn bound_for(memory: &[u64], blocks: u64, key: &[u8]) -> u64
-    requires { length memory.now ≡ 152520 }
+fn bound_for(memory: &[u64; MEMORY], blocks: u64, key: &[u8]) -> u64
     ensures { result ≡ bound_after blocks memory.now key.now }
 {
     if blocks == 0 {
@@ -33,25 +34,17 @@ fn bound_for(memory: &[u64], blocks: u64, key: &[u8]) -> u64
 }
 
 // What a version brings, at the front of a row; and how many bytes that is. None where it is outside the limits.
-fn bring(
-    begins: bool,
-    bound: u64,
-    key: &[u8],
-    moment: u64,
-    gone: bool,
-    value: &[u8],
-    row: &mut [u8],
-) -> Option<usize>
+fn bring(begins: bool, bound: u64, version: Version<'_>, row: &mut [u8]) -> Option<usize>
     requires { length row.old ≡ 1302 }
-    ensures len { result ≡ brought_length begins (version key.now moment gone value.now) }
-    ensures bytes { in_limits (version key.now moment gone value.now) ≡ true → take (length (brought begins bound (version key.now moment gone value.now))) row.new ≡ brought begins bound (version key.now moment gone value.now) }
+    ensures len { result ≡ brought_length begins (said version.entry) }
+    ensures bytes { in_limits (said version.entry) ≡ true → take (length (brought begins bound (said version.entry))) row.new ≡ brought begins bound (said version.entry) }
 {
     if begins {
         row[0..8].copy_from_slice(&bound.to_le_bytes());
-        let size = encode(key, moment, gone, value, &mut row[8..1302])?;
+        let size = encode(version, &mut row[8..1302])?;
         return Some(size + 8);
     }
-    encode(key, moment, gone, value, row)
+    encode(version, row)
 }
 
 // Where a block begins, and its length.
@@ -64,8 +57,7 @@ fn entry_of(block: Open) -> [u8; 8]
 }
 
 // The entry of the block being written, if there is one, goes to the page of positions.
-pub fn end_block(memory: &mut [u64], writer: Writer)
-    requires { length memory.old ≡ 152520 }
+pub fn end_block(memory: &mut [u64; MEMORY], writer: Writer)
     ensures { memory.new ≡ ended_block writer memory.old }
 {
     if writer.block.count == 0 {
@@ -78,39 +70,36 @@ pub fn end_block(memory: &mut [u64], writer: Writer)
     );
 }
 
-fn put_in_hand(memory: &mut [u64], bytes: &[u8])
-    requires { length memory.old ≡ 152520 }
+fn put_in_hand(memory: &mut [u64; MEMORY], bytes: &[u8])
     ensures { memory.new ≡ in_hand bytes.now memory.old }
 {
     put_octets(&mut memory[150202..151512], 0, bytes);
 }
 
 // Hands a version over; none where it is outside the limits, and nothing is changed.
-pub fn give(
-    memory: &mut [u64],
-    writer: Writer,
-    key: &[u8],
-    moment: u64,
-    gone: bool,
-    value: &[u8],
-) -> Option<Writer>
-    requires { length memory.old ≡ 152520 }
-    ensures writer { result ≡ given_writer writer (version key.now moment gone value.now) }
-    ensures memory { memory.new ≡ given_memory writer (version key.now moment gone value.now) memory.old }
+pub fn give(memory: &mut [u64; MEMORY], writer: Writer, version: Version<'_>) -> Option<Writer>
+    ensures writer { result ≡ given_writer writer (said version.entry) }
+    ensures memory { memory.new ≡ given_memory writer (said version.entry) memory.old }
 {
     let size = 15u64
-        .saturating_add(key.len() as u64)
-        .saturating_add(value.len() as u64);
+        .saturating_add(version.key.len() as u64)
+        .saturating_add(version.value.len() as u64);
     let begins = writer.begins(size);
-    let bound = bound_for(memory, writer.block.count, key);
+    let bound = bound_for(memory, writer.block.count, version.key);
     let mut row = [0u8; 1302];
-    let Some(len) = bring(begins, bound, key, moment, gone, value, &mut row) else {
+    let Some(len) = bring(begins, bound, version, &mut row) else {
         return None;
     };
     put_in_hand(memory, part_of(&row, 0, len));
     if begins {
         end_block(memory, writer);
     }
-    stage(memory, key, moment, gone, &[]);
+    stage(
+        memory,
+        Version {
+            value: &[],
+            ..version
+        },
+    );
     Some(writer.give(size))
 }

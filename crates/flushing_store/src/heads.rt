@@ -2,17 +2,16 @@
 ghost use Rattle.std.specs.Prelude.{◌≡◌, Bool, length};
 ghost use Rattle.flushing_store.specs.Round.{memory_head, leads, memory_turn, table_turn};
 
-use crate::control::{Control, Merging};
+use crate::control::{Control, MEMORY, Merging};
 use crate::give::give;
 use crate::stage::{read_key, read_value};
 use crate::turn::{Deed, Turn};
 use memtable::{is_gone, moment_at, place_at};
 use merge::{Next, choose};
-use value::{Place, key_of, part_of, value_of};
+use value::{Place, Version, key_of, part_of, value_of};
 
 // Where the next version in memory stands.
-pub fn memory_head(memory: &[u64], control: Control) -> Option<u64>
-    requires { length memory.now ≡ 152520 }
+pub fn memory_head(memory: &[u64; MEMORY], control: Control) -> Option<u64>
     ensures { result ≡ memory_head control memory.now }
 {
     if control.merging.walked < control.base.table.versions {
@@ -23,8 +22,7 @@ pub fn memory_head(memory: &[u64], control: Control) -> Option<u64>
 }
 
 // Does the version in memory come before the one in the block?
-pub fn memory_leads(memory: &[u64], at: u64, block: &[u8], place: Place) -> bool
-    requires { length memory.now ≡ 152520 }
+pub fn memory_leads(memory: &[u64; MEMORY], at: u64, block: &[u8], place: Place) -> bool
     ensures { result ≡ leads memory.now at block.now place }
 {
     let mut key = [0u8; 255];
@@ -37,8 +35,7 @@ pub fn memory_leads(memory: &[u64], at: u64, block: &[u8], place: Place) -> bool
 }
 
 // Hands over the version in memory.
-pub fn give_memory(memory: &mut [u64], control: Control, at: u64) -> Turn
-    requires { length memory.old ≡ 152520 }
+pub fn give_memory(memory: &mut [u64; MEMORY], control: Control, at: u64) -> Turn
     ensures turn { result ≡ (memory_turn control memory.old at).turn }
     ensures memory { memory.new ≡ (memory_turn control memory.old at).memory }
 {
@@ -52,10 +49,12 @@ pub fn give_memory(memory: &mut [u64], control: Control, at: u64) -> Turn
     let Some(writer) = give(
         memory,
         control.merging.writer,
-        part_of(&key, 0, key_len),
-        moment,
-        gone,
-        part_of(&value, 0, value_len),
+        Version {
+            key: part_of(&key, 0, key_len),
+            moment,
+            gone,
+            value: part_of(&value, 0, value_len),
+        },
     ) else {
         return Turn {
             control,
@@ -74,8 +73,7 @@ pub fn give_memory(memory: &mut [u64], control: Control, at: u64) -> Turn
 }
 
 // Hands over the version in the block.
-pub fn give_table(memory: &mut [u64], control: Control, block: &[u8], place: Place) -> Turn
-    requires { length memory.old ≡ 152520 }
+pub fn give_table(memory: &mut [u64; MEMORY], control: Control, block: &[u8], place: Place) -> Turn
     ensures turn { result ≡ (table_turn control memory.old block.now place).turn }
     ensures memory { memory.new ≡ (table_turn control memory.old block.now place).memory }
 {
@@ -83,10 +81,12 @@ pub fn give_table(memory: &mut [u64], control: Control, block: &[u8], place: Pla
     let Some(writer) = give(
         memory,
         control.merging.writer,
-        key_of(block, place),
-        place.moment,
-        place.gone,
-        value_of(block, place),
+        Version {
+            key: key_of(block, place),
+            moment: place.moment,
+            gone: place.gone,
+            value: value_of(block, place),
+        },
     ) else {
         return Turn {
             control,

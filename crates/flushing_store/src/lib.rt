@@ -20,5 +20,6 @@ mod turn;
 mod words;
 mod write;
 
-pub use entry::{MEMORY, step};
+pub use control::MEMORY;
+pub use entry::step;
 pub use laws::own_is_whole;

@@ -6,7 +6,7 @@ ghost use Rattle.flushing_store.specs.Acts.{Quiet};
 ghost use Rattle.flushing_store.specs.Control.{stage_region};
 ghost use Rattle.flushing_store.specs.Look.{extent_of as extent_in, looked, page_in, asked};
 
-use crate::control::Control;
+use crate::control::{Control, MEMORY};
 use crate::stage::read_key;
 use crate::words::save;
 use manifest::Manifest;
@@ -53,13 +53,12 @@ fn look(lookup: Lookup, extent: Extent, row: &[u8], key: &[u8], moment: u64) -> 
 
 // The same for the key of the version that the command is about.
 pub fn look_staged(
-    memory: &[u64],
+    memory: &[u64; MEMORY],
     lookup: Lookup,
     extent: Extent,
     row: &[u8],
     moment: u64,
 ) -> Looked
-    requires { length memory.now ≡ 152520 }
     ensures { result ≡ looked lookup extent row.now (key_at (stage_region memory.now) 0) moment }
 {
     let mut key = [0u8; 255];
@@ -68,8 +67,7 @@ pub fn look_staged(
 }
 
 // A page came: it goes to its place.
-pub fn take_page(memory: &mut [u64], lookup: Lookup, page: &[u8]) -> Lookup
-    requires { length memory.old ≡ 152520 }
+pub fn take_page(memory: &mut [u64; MEMORY], lookup: Lookup, page: &[u8]) -> Lookup
     ensures state { result ≡ with_page lookup }
     ensures row { memory.new ≡ page_in lookup page.now memory.old }
 {
@@ -84,8 +82,7 @@ pub fn take_page(memory: &mut [u64], lookup: Lookup, page: &[u8]) -> Lookup
 }
 
 // Asks for the page that a lookup wants next.
-pub fn ask(memory: &mut [u64], control: Control, lookup: Lookup) -> Told
-    requires { length memory.old ≡ 152520 }
+pub fn ask(memory: &mut [u64; MEMORY], control: Control, lookup: Lookup) -> Told
     ensures { Quiet (asked control memory.old lookup) result memory.new }
 {
     let Some(page) = lookup.load.wants() else {

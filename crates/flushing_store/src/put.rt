@@ -5,12 +5,13 @@ ghost use Rattle.table.specs.Stream.{sealed};
 ghost use Rattle.manifest.specs.Manifest.{manifest_page};
 
 use manifest::Manifest;
+use store::ROW;
 use table::{fill, read_octets};
 use value::{byte, part_of};
 
 // A page's bytes at the front of the row.
-fn tell_page(page: &[u8], out: &mut [u64])
-    requires { (length page.now ≡ 512) × (1280 ≤ length out.old) }
+fn tell_page(page: &[u8], out: &mut [u64; ROW])
+    requires { length page.now ≡ 512 }
     ensures { out.new ≡ page.now ++ drop 512 out.old }
 {
     for i in 0..512usize {
@@ -19,8 +20,7 @@ fn tell_page(page: &[u8], out: &mut [u64])
 }
 
 // The page with the first n bytes of a row of words, at most 504, and its sum.
-pub fn put_page(row: &[u64], n: u64, out: &mut [u64])
-    requires { 1280 ≤ length out.old }
+pub fn put_page(row: &[u64], n: u64, out: &mut [u64; ROW])
     ensures { out.new ≡ sealed (octets (min n 504) row.now) ++ drop 512 out.old }
 {
     let mut bytes = [0u8; 504];
@@ -32,8 +32,7 @@ pub fn put_page(row: &[u64], n: u64, out: &mut [u64])
 }
 
 // The page of a list.
-pub fn put_list(list: Manifest, out: &mut [u64])
-    requires { 1280 ≤ length out.old }
+pub fn put_list(list: Manifest, out: &mut [u64; ROW])
     ensures { out.new ≡ manifest_page list ++ drop 512 out.old }
 {
     let mut page = [0u8; 512];

@@ -2,7 +2,7 @@
 ghost use Rattle.std.specs.Prelude.{◌≡◌, length};
 ghost use Rattle.flushing_store.specs.Round.{settled_turn, data_turn, positions_turn, took_bytes, took_turn, closed_turn, head_turn, block_turn, next_turn, round as round_of};
 
-use crate::control::{Base, Control, Merging, Phase};
+use crate::control::{Base, Control, MEMORY, Merging, Phase};
 use crate::give::end_block;
 use crate::heads::{give_memory, give_table, memory_head, memory_leads};
 use crate::look::extent_of;
@@ -64,8 +64,7 @@ pub fn put_positions(control: Control) -> Turn
 }
 
 // Bytes in hand go to the page of data, at most 504.
-fn move_bytes(memory: &mut [u64], taken: u64, fill: u64, n: u64)
-    requires { length memory.old ≡ 152520 }
+fn move_bytes(memory: &mut [u64; MEMORY], taken: u64, fill: u64, n: u64)
     ensures { memory.new ≡ took_bytes taken fill n memory.old }
 {
     let mut bytes = [0u8; 504];
@@ -75,8 +74,7 @@ fn move_bytes(memory: &mut [u64], taken: u64, fill: u64, n: u64)
     put_octets(&mut memory[151512..152016], fill, part_of(&bytes, 0, len));
 }
 
-fn take_bytes(memory: &mut [u64], control: Control, n: u64) -> Turn
-    requires { length memory.old ≡ 152520 }
+fn take_bytes(memory: &mut [u64; MEMORY], control: Control, n: u64) -> Turn
     ensures turn { result ≡ took_turn control n }
     ensures memory { memory.new ≡ took_bytes control.merging.writer.hand.taken control.merging.writer.stream.fill n memory.old }
 {
@@ -93,8 +91,7 @@ fn take_bytes(memory: &mut [u64], control: Control, n: u64) -> Turn
 }
 
 // All was handed over: the last block is closed, and the last page of data is put, or where that is empty the last page of positions.
-fn close(memory: &mut [u64], control: Control) -> Turn
-    requires { length memory.old ≡ 152520 }
+fn close(memory: &mut [u64; MEMORY], control: Control) -> Turn
     ensures turn { result ≡ (closed_turn control memory.old).turn }
     ensures memory { memory.new ≡ (closed_turn control memory.old).memory }
 {
@@ -127,8 +124,12 @@ fn close(memory: &mut [u64], control: Control) -> Turn
 }
 
 // The next version of the two runs is handed over; where nothing is left, the table is closed.
-fn hand_over(memory: &mut [u64], control: Control, block: &[u8], place: Option<Place>) -> Turn
-    requires { length memory.old ≡ 152520 }
+fn hand_over(
+    memory: &mut [u64; MEMORY],
+    control: Control,
+    block: &[u8],
+    place: Option<Place>,
+) -> Turn
     ensures turn { result ≡ (head_turn control memory.old block.now place).turn }
     ensures memory { memory.new ≡ (head_turn control memory.old block.now place).memory }
 {
@@ -147,8 +148,7 @@ fn hand_over(memory: &mut [u64], control: Control, block: &[u8], place: Option<P
 }
 
 // The head of the table's run, which is there.
-fn next_in_block(memory: &mut [u64], control: Control) -> Turn
-    requires { length memory.old ≡ 152520 }
+fn next_in_block(memory: &mut [u64; MEMORY], control: Control) -> Turn
     ensures turn { result ≡ (block_turn control memory.old).turn }
     ensures memory { memory.new ≡ (block_turn control memory.old).memory }
 {
@@ -161,8 +161,7 @@ fn next_in_block(memory: &mut [u64], control: Control) -> Turn
 }
 
 // The next version is due: it is handed over, or the page that tells the head of the table's run is read.
-fn next_version(memory: &mut [u64], control: Control) -> Turn
-    requires { length memory.old ≡ 152520 }
+fn next_version(memory: &mut [u64; MEMORY], control: Control) -> Turn
     ensures turn { result ≡ (next_turn control memory.old).turn }
     ensures memory { memory.new ≡ (next_turn control memory.old).memory }
 {
@@ -183,8 +182,7 @@ fn next_version(memory: &mut [u64], control: Control) -> Turn
     }
 }
 
-pub fn round(memory: &mut [u64], control: Control) -> Turn
-    requires { length memory.old ≡ 152520 }
+pub fn round(memory: &mut [u64; MEMORY], control: Control) -> Turn
     ensures turn { result ≡ (round_of control memory.old).turn }
     ensures memory { memory.new ≡ (round_of control memory.old).memory }
 {

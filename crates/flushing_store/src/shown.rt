@@ -4,6 +4,7 @@ ghost use Rattle.value.specs.Encoding.{key_at, value_at};
 ghost use Rattle.flushing_store.specs.Shown.{row_at, row_of};
 
 use memtable::{key_byte, key_len, value_byte, value_len};
+use store::ROW;
 use value::{Place, byte, key_of, value_of};
 
 // How many numbers the row of a version in memory has.
@@ -28,8 +29,7 @@ fn row_byte(arena: &[u64], place: u64, i: u64) -> u64
     u64::from(value_byte(arena, place, i - 1 - len))
 }
 
-pub fn write_row(arena: &[u64], place: u64, out: &mut [u64]) -> u64
-    requires { 1280 ≤ length out.old }
+pub fn write_row(arena: &[u64], place: u64, out: &mut [u64; ROW]) -> u64
     ensures len { result ≡ length (row_at arena.now place) }
     ensures row { out.new ≡ row_at arena.now place ++ drop (length (row_at arena.now place)) out.old }
 {
@@ -54,8 +54,7 @@ fn shown_byte(key: &[u8], value: &[u8], i: usize) -> u64
     u64::from(byte(value, i - 1 - key.len()))
 }
 
-fn write_shown(key: &[u8], value: &[u8], out: &mut [u64]) -> u64
-    requires { 1280 ≤ length out.old }
+fn write_shown(key: &[u8], value: &[u8], out: &mut [u64; ROW]) -> u64
     ensures len { result ≡ length (row_of key.now value.now) }
     ensures row { out.new ≡ row_of key.now value.now ++ drop (length (row_of key.now value.now)) out.old }
 {
@@ -71,8 +70,7 @@ fn write_shown(key: &[u8], value: &[u8], out: &mut [u64]) -> u64
 }
 
 // The row of a version in a block that was read.
-pub fn write_place(block: &[u8], place: Place, out: &mut [u64]) -> u64
-    requires { 1280 ≤ length out.old }
+pub fn write_place(block: &[u8], place: Place, out: &mut [u64; ROW]) -> u64
     ensures len { result ≡ length (row_of (key_at block.now place) (value_at block.now place)) }
     ensures row { out.new ≡ row_of (key_at block.now place) (value_at block.now place) ++ drop (length (row_of (key_at block.now place) (value_at block.now place))) out.old }
 {

@@ -1,16 +1,17 @@
 // The version that a command under way is about, kept in memory while pages are read for it; and versions in words read into rows of bytes.
 ghost use Rattle.std.specs.Prelude.{◌≡◌, length, take};
-ghost use Rattle.value.specs.Versions.{version};
+ghost use Rattle.value.specs.Said.{said};
 ghost use Rattle.memtable.specs.Arena.{key_at, value_at};
 ghost use Rattle.flushing_store.specs.Stage.{staged};
 
+use crate::control::MEMORY;
 use memtable::{append, key_into, key_len, value_into, value_len};
+use value::Version;
 
-pub fn stage(memory: &mut [u64], key: &[u8], moment: u64, gone: bool, value: &[u8])
-    requires { length memory.old ≡ 152520 }
-    ensures { memory.new ≡ staged (version key.now moment gone value.now) memory.old }
+pub fn stage(memory: &mut [u64; MEMORY], version: Version<'_>)
+    ensures { memory.new ≡ staged (said version.entry) memory.old }
 {
-    append(&mut memory[147520..147682], 0, key, moment, gone, value);
+    append(&mut memory[147520..147682], 0, version);
 }
 
 // The key of the version at a place, at the front of a row of 255 bytes; and its length.

@@ -3,7 +3,7 @@ ghost use Rattle.std.specs.Prelude.{◌≡◌, length};
 ghost use Rattle.flushing_store.specs.Control.{phase_of, phase_number, stage_of, stage_number, base_from, manifest_from, lookup_from, merging_from, wraps, base_words, manifest_words, lookup_words, merging_words, control_of, put_control, to_phase};
 ghost use Rattle.manifest.specs.Manifest.{half_of, half_number, flag};
 
-use crate::control::{Base, Control, Merging, Phase};
+use crate::control::{Base, Control, MEMORY, Merging, Phase};
 use manifest::{Half, Layout, Manifest, Moments, Table, Weight};
 use memtable::Memtable;
 use table::{Cursor, Entry, Filling, Hand, Load, Lookup, Open, Search, Span, Stage, Writer};
@@ -299,8 +299,7 @@ fn put_row(row: &mut [u64], words: &[u64])
     row.copy_from_slice(words);
 }
 
-pub fn load(memory: &[u64]) -> Control
-    requires { length memory.now ≡ 152520 }
+pub fn load(memory: &[u64; MEMORY]) -> Control
     ensures { result ≡ control_of memory.now }
 {
     Control {
@@ -311,8 +310,7 @@ pub fn load(memory: &[u64]) -> Control
     }
 }
 
-pub fn save(memory: &mut [u64], control: Control)
-    requires { length memory.old ≡ 152520 }
+pub fn save(memory: &mut [u64; MEMORY], control: Control)
     ensures { memory.new ≡ put_control memory.old control }
 {
     put_row(&mut memory[0..6], &base_row(control.base));
@@ -322,8 +320,7 @@ pub fn save(memory: &mut [u64], control: Control)
 }
 
 // Another phase, and all else as it is in the control state.
-pub fn turn_to(memory: &mut [u64], control: Control, phase: Phase)
-    requires { length memory.old ≡ 152520 }
+pub fn turn_to(memory: &mut [u64; MEMORY], control: Control, phase: Phase)
     ensures { memory.new ≡ put_control memory.old (to_phase control phase) }
 {
     let base = Base {
