@@ -4,7 +4,6 @@ use Rattle.std.proofs.lemmas.Bool.Decides.{nat_tests}
 use Rattle.std.proofs.lemmas.List.{length-replicate}
 use Rattle.value.specs.Versions.{version}
 use Rattle.table.specs.Row.{octets}
-use Rattle.flushing_store.specs.Acts.{stepped, Does, Quiet}
 use Rattle.store.specs.Promise.{on, said, page, next, refused, Step}
 use Rattle.store.specs.House.{write, erase, get, flush}
 use Rattle.flushing_store.specs.Control.{control_of}
@@ -13,15 +12,15 @@ use Rattle.flushing_store.specs.Write.{wrote}
 use Rattle.flushing_store.specs.Get.{got}
 use Rattle.flushing_store.specs.Flush.{flushed_step}
 use Rattle.flushing_store.specs.Own.{went_on, paged_by, paged, heard, turned, blank_memory, own}
-use Rattle.flushing_store.specs.Entry.{StepSays, step_fits}
+use Rattle.store.specs.Entry.{StepSays, step_fits}
 use Rattle.store.specs.declared.told.Told.{Told}
 use Rattle.store.specs.declared.told.Told.TheVariants.{No}
 use Rattle.flushing_store.specs.declared.control.Phase.{Phase}
 use Rattle.flushing_store.specs.declared.control.Phase.TheVariants.{Idle, Shown, FirstList, AfterWhole, AfterTorn, Getting, Writing, Merging, Closed, Placed, Settled, Listed, Committed}
 use Rattle.flushing_store.specs.declared.control.Control.{Control}
-use Rattle.store.specs.Acts.{ActTold}
+use Rattle.store.specs.Acts.{ActTold, stepped, Does, Quiet}
 use Rattle.std.specs.Array.{IsWholeChunk, IsFirstChunk}
-use Rattle.store.specs.Entry.{event_fits, event_of}
+use Rattle.store.specs.Event.{event_fits, event_of}
 use Rattle.store.proofs.ToldLaws.{told_in_row}
 
 pub start_length : length own.start ≡ 152520

@@ -12,8 +12,8 @@ use Rattle.table.specs.declared.cursor.Want.{Want}
 use Rattle.table.specs.declared.cursor.Want.TheVariants.{Positions as WantsPositions, Data as WantsData, Head, End}
 use Rattle.manifest.specs.Manifest.{manifest_page}
 use Rattle.manifest.specs.declared.fields.Manifest.{Manifest}
-use Rattle.flushing_store.specs.Acts.{Does}
-use Rattle.flushing_store.specs.Control.{put_control, within, list_of, data_of, entries_of}
+use Rattle.flushing_store.specs.Control.{put_control, list_of, data_of, entries_of}
+use Rattle.store.specs.Regions.{within}
 use Rattle.flushing_store.specs.Look.{extent_of}
 use Rattle.flushing_store.specs.Round.{Went, went, with_cursor, round}
 use Rattle.flushing_store.specs.Flush.{is_more, spun_from, spun, performed, merged_on, begun_flush, flushed_step, page_merged}
@@ -23,7 +23,7 @@ use Rattle.store.specs.declared.told.Told.TheVariants.{Read, Put, Settle as Sett
 use Rattle.flushing_store.specs.declared.turn.Deed.{Deed}
 use Rattle.flushing_store.specs.declared.turn.Deed.TheVariants.{More, Fetch, Data, Positions, Settle}
 use Rattle.flushing_store.specs.declared.turn.Turn.{Turn}
-use Rattle.store.specs.Acts.{ActTold}
+use Rattle.store.specs.Acts.{ActTold, Does}
 
 -- THE ROUNDS
 pub spun_more : (n i : ℕ) (t u : Turn) (m m₁ : List ℕ) → i < n → true ≡ is_more t.deed → u ≡ (round t.control m).turn → m₁ ≡ (round t.control m).memory →

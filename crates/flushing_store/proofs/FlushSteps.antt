@@ -19,7 +19,8 @@ use Rattle.manifest.specs.Places.{other, InHalf}
 use Rattle.store.specs.House.{House, flush, core}
 use Rattle.store.specs.Promise.{Event, page, next, world, queued}
 use Rattle.store.specs.Account.{Next, Ends}
-use Rattle.flushing_store.specs.Control.{memory_words, control_of, put_control, index_of, arena_of, stage_region, ring_of, list_of, hand_of, data_of, entries_of}
+use Rattle.flushing_store.specs.Control.{memory_words, control_of, put_control, stage_region, ring_of, list_of, hand_of, data_of, entries_of}
+use Rattle.store.specs.Regions.{index_of, arena_of}
 use Rattle.flushing_store.specs.Look.{extent_of}
 use Rattle.flushing_store.specs.Flush.{is_more, performed, done_by, spun, merged_on}
 use Rattle.flushing_store.specs.declared.control.Phase.{Phase}

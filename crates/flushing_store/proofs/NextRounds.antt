@@ -23,7 +23,8 @@ use Rattle.table.specs.declared.lookup.Entry.{Entry}
 use Rattle.table.proofs.CursorLaws.{cursor_right}
 use Rattle.table.proofs.WalkLaws.{advanced_pages}
 use Rattle.store.specs.House.{House}
-use Rattle.flushing_store.specs.Control.{merging, with_merging, index_of, arena_of, ring_of, list_of, hand_of, data_of, entries_of}
+use Rattle.flushing_store.specs.Control.{merging, with_merging, ring_of, list_of, hand_of, data_of, entries_of}
+use Rattle.store.specs.Regions.{index_of, arena_of}
 use Rattle.flushing_store.specs.Stage.{version_of}
 use Rattle.flushing_store.specs.Look.{extent_of}
 use Rattle.flushing_store.specs.Give.{given_writer, given_memory}

@@ -18,7 +18,8 @@ use Rattle.table.specs.declared.lookup.Entry.{Entry}
 use Rattle.table.specs.declared.writer.Writer.{Writer}
 use Rattle.table.specs.declared.writer.Due.{Due}
 use Rattle.table.specs.declared.writer.Due.TheVariants.{Data as DataDue, Positions as PositionsDue, Take, Next}
-use Rattle.flushing_store.specs.Control.{arena_of, list_of}
+use Rattle.flushing_store.specs.Control.{list_of}
+use Rattle.store.specs.Regions.{arena_of}
 use Rattle.flushing_store.specs.Stage.{version_of}
 use Rattle.flushing_store.specs.Look.{extent_of}
 use Rattle.flushing_store.specs.Give.{given_writer, given_memory}

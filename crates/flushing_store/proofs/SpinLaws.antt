@@ -17,7 +17,8 @@ use Rattle.table.specs.declared.cursor.Want.TheVariants.{Positions as WantsPosit
 use Rattle.table.specs.declared.writer.Due.TheVariants.{Data as DataDue, Positions as PositionsDue, Take, Next as NextDue}
 use Rattle.table.proofs.CursorLaws.{cursor_right}
 use Rattle.store.specs.House.{House}
-use Rattle.flushing_store.specs.Control.{index_of, arena_of, ring_of, list_of}
+use Rattle.flushing_store.specs.Control.{ring_of, list_of}
+use Rattle.store.specs.Regions.{index_of, arena_of}
 use Rattle.flushing_store.specs.Look.{extent_of}
 use Rattle.flushing_store.specs.Round.{Went, memory_head, leads, memory_turn, table_turn, heads_turn, head_turn, block_in, block_turn, wanted_turn, next_turn, due_turn, settled_turn, round}
 use Rattle.flushing_store.specs.Flush.{is_more, spun_from, spun}

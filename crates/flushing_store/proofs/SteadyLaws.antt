@@ -28,15 +28,17 @@ use Rattle.table.proofs.RowLaws.{length_octets}
 use Rattle.table.proofs.StreamLaws.{length_payload}
 use Rattle.store.specs.House.{Command, write, erase, get, range, first_key, last_key, count, flush, compact, a_key}
 use Rattle.store.specs.Promise.{Event, on, said, page, next, Step, done, tells, refused, all_small, Steady}
-use Rattle.flushing_store.specs.Acts.{stepped}
-use Rattle.flushing_store.specs.Control.{memory_words, wrap, wraps, base_words, manifest_words, lookup_words, merging_words, control_of, put_control, to_phase, region, within, arena_of, stage_region, list_of}
+use Rattle.store.specs.Acts.{stepped}
+use Rattle.flushing_store.specs.Control.{memory_words, wraps, base_words, manifest_words, lookup_words, merging_words, control_of, put_control, to_phase, stage_region, list_of}
+use Rattle.store.specs.Regions.{wrap, region, within, arena_of, in_arena, in_index, sought}
 use Rattle.flushing_store.specs.Octets.{put_octets}
 use Rattle.flushing_store.specs.Stage.{staged, staged_version}
 use Rattle.flushing_store.specs.Look.{extent_of, page_in, asked_for, asked}
-use Rattle.flushing_store.specs.Shown.{row_at, row_of}
+use Rattle.store.specs.Shown.{row_at, row_of}
 use Rattle.flushing_store.specs.Power.{powered, first_listed, second_listed}
-use Rattle.flushing_store.specs.Write.{checked, key_size, value_size, proper_moment, not_earlier, unwritten, roomy, within_pages, in_arena, in_index, put_in, accepted, sought_below, begun_write, wrote, finished, written_by, wrote_by, wrote_on}
-use Rattle.flushing_store.specs.Get.{sought, begun_get, got_below, told_of, got, shown_by, got_by, got_on}
+use Rattle.flushing_store.specs.Write.{put_in, accepted, sought_below, begun_write, wrote, finished, written_by, wrote_by, wrote_on}
+use Rattle.store.specs.Checks.{checked, key_size, value_size, proper_moment, not_earlier, unwritten, roomy, within_pages}
+use Rattle.flushing_store.specs.Get.{begun_get, got_below, told_of, got, shown_by, got_by, got_on}
 use Rattle.flushing_store.specs.Give.{bound_after, brought, ended_block, in_hand, with_entry, given_memory}
 use Rattle.flushing_store.specs.Round.{Went, took_bytes, memory_head, leads, memory_turn, table_turn, closed_turn, heads_turn, head_turn, block_in, block_turn, wanted_turn, next_turn, due_turn, settled_turn, round, positions_turn}
 use Rattle.flushing_store.specs.Flush.{is_more, spun_from, spun, performed, merged_on, begun_flush, flushed_step, page_taken, page_merged, last_step, listed_step, committed_step}
@@ -49,7 +51,7 @@ use Rattle.flushing_store.specs.declared.control.Control.{Control}
 use Rattle.flushing_store.specs.declared.turn.Deed.{Deed}
 use Rattle.flushing_store.specs.declared.turn.Deed.TheVariants.{More, Fetch, Data, Positions, Settle}
 use Rattle.flushing_store.proofs.WithinLaws.{length_wraps, length_put_at, small_take, small_append, small_getD, small_cons, small_zeros, small_wraps, small_put_at, small_region, small_within}
-use Rattle.flushing_store.proofs.RegionLaws.{length_within, length_region}
+use Rattle.store.proofs.RegionLaws.{length_within, length_region}
 use Rattle.flushing_store.proofs.StepLaws.{start_long}
 
 -- PARTS of memory: what is put keeps a part's length, and its numbers small
@@ -394,7 +396,7 @@ module _ (m₀ : List ℕ) where
     unfolding heard got
     heard_kept m (write key s v) h = wrote_kept k u m (version key s false v) h
     heard_kept m (erase key s) h = wrote_kept k u m (version key s true []) h
-    heard_kept m (get key s) h = told_kept k m key s (sought k m key s) h
+    heard_kept m (get key s) h = told_kept k m key s (sought k.base.table m key s) h
     heard_kept m (range a b s) h = h
     heard_kept m (first_key s) h = h
     heard_kept m (last_key s) h = h

@@ -27,19 +27,6 @@ use Rattle.flushing_store.specs.declared.control.Control.{Control}
 abbrev pub memory_words : ℕ
 memory_words = 152520
 
-unfoldable pub region : ℕ → ℕ → List ℕ → List ℕ
-region a n m = take n (drop a m)
-
-unfoldable pub within : ℕ → ℕ → (List ℕ → List ℕ) → List ℕ → List ℕ
-within a n f m = take a m ++ (f (region a n m) ++ drop n (drop a m))
-
--- the memtable's index and arena
-abbrev pub index_of : List ℕ → List ℕ
-index_of m = region 64 16384 m
-
-abbrev pub arena_of : List ℕ → List ℕ
-arena_of m = region 16448 131072 m
-
 -- the version that a command under way is about; in a merge the version that was handed over last
 abbrev pub stage_region : List ℕ → List ℕ
 stage_region m = region 147520 162 m
@@ -60,10 +47,6 @@ data_of m = region 151512 504 m
 
 abbrev pub entries_of : List ℕ → List ℕ
 entries_of m = region 152016 504 m
-
--- CONTROL WORDS
-abbrev pub wrap : ℕ → ℕ
-wrap n = n % 18446744073709551616
 
 unfoldable pub wraps : List ℕ → List ℕ
 wraps [] = []

@@ -17,8 +17,9 @@ use Rattle.table.specs.declared.cursor.Want.TheVariants.{Positions as WantsPosit
 use Rattle.manifest.specs.Manifest.{manifest_page}
 use Rattle.manifest.specs.Places.{slot_of}
 use Rattle.store.specs.Promise.{Step, read, put, settle, done, refused}
-use Rattle.flushing_store.specs.Acts.{stepped}
-use Rattle.flushing_store.specs.Control.{base, merging, control, put_control, to_phase, within, list_of, data_of, entries_of}
+use Rattle.store.specs.Acts.{stepped}
+use Rattle.flushing_store.specs.Control.{base, merging, control, put_control, to_phase, list_of, data_of, entries_of}
+use Rattle.store.specs.Regions.{within}
 use Rattle.flushing_store.specs.Look.{extent_of}
 use Rattle.flushing_store.specs.Target.{next_manifest}
 use Rattle.flushing_store.specs.Round.{Went, went, positions_turn, with_cursor, round}

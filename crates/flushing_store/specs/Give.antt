@@ -13,7 +13,8 @@ use Rattle.table.specs.Blocks.{no_bound}
 use Rattle.table.specs.Layout.{entry}
 use Rattle.table.specs.Writing.{begins, gave}
 use Rattle.table.specs.declared.writer.Writer.{Writer}
-use Rattle.flushing_store.specs.Control.{within, stage_region}
+use Rattle.flushing_store.specs.Control.{stage_region}
+use Rattle.store.specs.Regions.{within}
 use Rattle.flushing_store.specs.Octets.{put_octets}
 use Rattle.flushing_store.specs.Stage.{staged}
 

@@ -21,7 +21,8 @@ use Rattle.table.specs.declared.cursor.Want.TheVariants.{Positions as WantsPosit
 use Rattle.table.specs.declared.writer.Writer.{Writer}
 use Rattle.table.specs.declared.writer.Due.{Due}
 use Rattle.table.specs.declared.writer.Due.TheVariants.{Data as DataDue, Positions as PositionsDue, Take, Next}
-use Rattle.flushing_store.specs.Control.{wrap, merging, with_merging, to_phase, within, index_of, arena_of, ring_of, list_of, hand_of}
+use Rattle.flushing_store.specs.Control.{merging, with_merging, to_phase, ring_of, list_of, hand_of}
+use Rattle.store.specs.Regions.{wrap, within, index_of, arena_of}
 use Rattle.flushing_store.specs.Octets.{put_octets}
 use Rattle.flushing_store.specs.Stage.{version_of}
 use Rattle.flushing_store.specs.Look.{extent_of}

@@ -1,9 +1,9 @@
 // One step of the machine, as the world outside calls it: events by number, acts by an enum and a lent row.
 ghost use Rattle.std.specs.Prelude.{◌≡◌, ◌≤◌, length};
-ghost use Rattle.flushing_store.specs.Acts.{Does};
+ghost use Rattle.store.specs.Acts.{Does};
 ghost use Rattle.flushing_store.specs.Own.{went_on, paged, turned};
-ghost use Rattle.store.specs.Entry.{event_fits, event_of};
-ghost use Rattle.flushing_store.specs.Entry.{StepSays, step_fits};
+ghost use Rattle.store.specs.Event.{event_fits, event_of};
+ghost use Rattle.store.specs.Entry.{StepSays, step_fits};
 
 use crate::control::{Control, MEMORY, Phase};
 use crate::flush::{commit, flush, merge_on, merge_page, put_last, put_new_list};

@@ -1,6 +1,6 @@
 // Flushing: table and memory are merged into the free half, a page at a time; the new table is settled, the list that names it is put and settled, and memory is emptied.
 ghost use Rattle.std.specs.Prelude.{◌≡◌, ◌≤◌, length};
-ghost use Rattle.flushing_store.specs.Acts.{Does, Quiet};
+ghost use Rattle.store.specs.Acts.{Does, Quiet};
 ghost use Rattle.flushing_store.specs.Flush.{is_more, spun, performed, flushed_step, page_merged, merged_on, last_step, listed_step, committed_step};
 
 use crate::control::{Base, Control, MEMORY, Merging, Phase};

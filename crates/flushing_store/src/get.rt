@@ -1,7 +1,8 @@
 // Getting: what is seen of a key at a moment, looked up in memory, and where that does not decide in the table; told as one row.
 ghost use Rattle.std.specs.Prelude.{◌≡◌, ◌<◌, ◌≤◌, ◌++◌, length};
-ghost use Rattle.flushing_store.specs.Acts.{Does, Quiet};
-ghost use Rattle.flushing_store.specs.Get.{sought, got, got_below, got_by, got_on};
+ghost use Rattle.store.specs.Acts.{Does, Quiet};
+ghost use Rattle.flushing_store.specs.Get.{got, got_below, got_by, got_on};
+ghost use Rattle.store.specs.Regions.{sought};
 
 use crate::control::{Base, Control, MEMORY, Phase};
 use crate::look::{Looked, ask, extent_of, look_staged, take_page};

@@ -2,7 +2,7 @@
 ghost use Rattle.std.specs.Prelude.{◌≡◌, length};
 ghost use Rattle.memtable.specs.Arena.{key_at};
 ghost use Rattle.table.specs.Lookup.{with_page};
-ghost use Rattle.flushing_store.specs.Acts.{Quiet};
+ghost use Rattle.store.specs.Acts.{Quiet};
 ghost use Rattle.flushing_store.specs.Control.{stage_region};
 ghost use Rattle.flushing_store.specs.Look.{extent_of as extent_in, looked, page_in, asked};
 

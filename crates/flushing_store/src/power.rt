@@ -1,6 +1,6 @@
 // Power is there: the two lists are read, and the one that holds is chosen. Nothing is put, so power may go again as often as it likes.
 ghost use Rattle.std.specs.Prelude.{◌≡◌, length};
-ghost use Rattle.flushing_store.specs.Acts.{Quiet};
+ghost use Rattle.store.specs.Acts.{Quiet};
 ghost use Rattle.flushing_store.specs.Power.{first_phase, powered, first_listed, second_listed};
 
 use crate::control::{Base, Control, MEMORY, Phase};

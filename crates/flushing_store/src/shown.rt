@@ -1,7 +1,7 @@
 // A version as it is shown: its key's length, the key, and the value, in one row.
 ghost use Rattle.std.specs.Prelude.{◌≡◌, ◌<◌, ◌≤◌, ◌++◌, length, drop, slice_index};
 ghost use Rattle.value.specs.Encoding.{key_at, value_at};
-ghost use Rattle.flushing_store.specs.Shown.{row_at, row_of};
+ghost use Rattle.store.specs.Shown.{row_at, row_of};
 
 use memtable::{key_byte, key_len, value_byte, value_len};
 use store::ROW;

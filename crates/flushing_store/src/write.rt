@@ -1,9 +1,11 @@
 // Writing and erasing: the checks in their order, each of which hands on its value or leaves with its number; then the version goes into memory.
 ghost use Rattle.std.specs.Prelude.{◌≡◌, length};
 ghost use Rattle.value.specs.Said.{said};
-ghost use Rattle.flushing_store.specs.Acts.{Quiet};
+ghost use Rattle.store.specs.Acts.{Quiet};
 ghost use Rattle.flushing_store.specs.Stage.{staged_version};
-ghost use Rattle.flushing_store.specs.Write.{key_size, value_size, proper_moment, not_earlier, unwritten as unwritten_at, roomy as roomy_for, within_pages, in_arena, in_index, put_in, sought_below, accepted, wrote, finished, wrote_by, wrote_on};
+ghost use Rattle.flushing_store.specs.Write.{put_in, sought_below, accepted, wrote, finished, wrote_by, wrote_on};
+ghost use Rattle.store.specs.Regions.{in_arena, in_index};
+ghost use Rattle.store.specs.Checks.{key_size, value_size, proper_moment, not_earlier, unwritten as unwritten_at, roomy as roomy_for, within_pages};
 
 use crate::control::{Base, Control, MEMORY, Phase};
 use crate::look::{Looked, ask, extent_of, look_staged, take_page};

@@ -17,3 +17,7 @@ pub mod WriteServes
 pub mod GetServes
 pub mod OwnLaws
 pub mod ToldLaws
+pub mod LaidLaws
+pub mod ShownLaws
+pub mod RegionLaws
+pub mod EventLaws

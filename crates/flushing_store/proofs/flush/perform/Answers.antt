@@ -1,5 +1,5 @@
 use Rattle.std.proofs.Common.{◌∙◌}
-use Rattle.flushing_store.specs.Control.{region}
+use Rattle.store.specs.Regions.{region}
 use Rattle.flushing_store.proofs.FlushLaws.{perform_more, perform_fetch, perform_settle, perform_data, perform_positions}
 use Rattle.flushing_store.proofs.flush.perform.Goals as goal
 use Rattle.flushing_store.proofs.flush.perform.Goals.{in-More, in-Fetch, in-Data, in-Positions, in-Settle}

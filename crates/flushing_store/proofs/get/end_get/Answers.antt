@@ -2,9 +2,10 @@ use Rattle.std.proofs.Common.{◌≡◌, ◌++◌, length, drop, sym, ap, ◌∙
 use Rattle.value.specs.Encoding.{key_at, value_at}
 use Rattle.memtable.specs.Arena.{key_at as key_in}
 use Rattle.table.specs.Lookup.{loaded}
-use Rattle.flushing_store.specs.Control.{region, stage_region}
+use Rattle.flushing_store.specs.Control.{stage_region}
+use Rattle.store.specs.Regions.{region}
 use Rattle.flushing_store.specs.Look.{looked}
-use Rattle.flushing_store.specs.Shown.{row_of}
+use Rattle.store.specs.Shown.{row_of}
 use Rattle.flushing_store.proofs.GetLaws.{looked_for, get_on, get_missing, get_gone, get_shown}
 use Rattle.flushing_store.proofs.get.end_get.Goals as goal
 

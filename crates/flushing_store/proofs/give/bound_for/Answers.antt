@@ -1,5 +1,5 @@
 use Rattle.std.proofs.Common.{◌∙◌}
-use Rattle.flushing_store.specs.Control.{region}
+use Rattle.store.specs.Regions.{region}
 use Rattle.flushing_store.proofs.GiveLaws.{bound_same, bound_before, bound_behind}
 use Rattle.flushing_store.proofs.give.bound_for.Goals as goal
 

@@ -1,6 +1,6 @@
 use Rattle.std.proofs.Common.{◌∙◌}
 use Rattle.value.specs.Versions.{version}
-use Rattle.flushing_store.specs.Control.{region, arena_of}
+use Rattle.store.specs.Regions.{region, arena_of}
 use Rattle.flushing_store.proofs.VersionReads.{version_read}
 use Rattle.flushing_store.proofs.RoundLaws.{memory_none, memory_some}
 use Rattle.flushing_store.proofs.heads.give_memory.Goals as goal

@@ -1,5 +1,5 @@
 use Rattle.std.proofs.Common.{◌∙◌}
-use Rattle.flushing_store.specs.Control.{region}
+use Rattle.store.specs.Regions.{region}
 use Rattle.flushing_store.proofs.RoundLaws.{leads_later, leads_earlier}
 use Rattle.flushing_store.proofs.heads.memory_leads.Goals as goal
 

@@ -1,5 +1,5 @@
 use Rattle.std.proofs.Common.{ap, ◌∙◌}
-use Rattle.flushing_store.specs.Control.{region}
+use Rattle.store.specs.Regions.{region}
 use Rattle.flushing_store.specs.Look.{looked}
 use Rattle.flushing_store.proofs.look.look_staged.Goals as goal
 

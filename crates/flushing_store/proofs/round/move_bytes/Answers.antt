@@ -1,9 +1,10 @@
 use Rattle.std.proofs.Common.{◌≡◌, ◌+◌, ◌-◌, min, take, drop, refl, ap, ◌∙◌, arith}
 use Rattle.table.specs.Row.{octets}
-use Rattle.flushing_store.specs.Control.{region, hand_of}
+use Rattle.flushing_store.specs.Control.{hand_of}
+use Rattle.store.specs.Regions.{region}
 use Rattle.flushing_store.specs.Octets.{put_octets}
 use Rattle.flushing_store.specs.Round.{took_bytes}
-use Rattle.flushing_store.proofs.WithinLaws.{within_is}
+use Rattle.store.proofs.RegionLaws.{within_is}
 use Rattle.flushing_store.proofs.OctetLaws.{front_octets, part_from}
 use Rattle.flushing_store.proofs.round.move_bytes.Goals as goal
 

@@ -1,7 +1,7 @@
 use Rattle.value.specs.Said.{said}
 use Rattle.memtable.specs.Arena.{appended}
 use Rattle.flushing_store.specs.Stage.{staged}
-use Rattle.flushing_store.proofs.WithinLaws.{within_is}
+use Rattle.store.proofs.RegionLaws.{within_is}
 use Rattle.flushing_store.proofs.stage.stage.Goals as goal
 
 pub returns : goal.returns

@@ -1,4 +1,5 @@
-use Rattle.flushing_store.specs.Control.{region, within, put_control}
+use Rattle.flushing_store.specs.Control.{put_control}
+use Rattle.store.specs.Regions.{region, within}
 use Rattle.flushing_store.proofs.words.save.Goals as goal
 
 pub returns : goal.returns

@@ -1,6 +1,7 @@
 use Rattle.std.proofs.Common.{◌∙◌}
 use Rattle.value.specs.Versions.{version}
-use Rattle.flushing_store.specs.Control.{region, stage_region}
+use Rattle.flushing_store.specs.Control.{stage_region}
+use Rattle.store.specs.Regions.{region}
 use Rattle.flushing_store.proofs.VersionReads.{version_read, finishes}
 use Rattle.flushing_store.proofs.write.finish.Goals as goal
 
