@@ -1,7 +1,5 @@
 -- The machine's memory seen through its parts: what a change of one part leaves of the others, and that control words come back as they were put.
-use Rattle.std.proofs.Common.{◌≡◌, ℕ, suc, ◌+◌, ◌<◌, ◌≤◌, Bool, true, false, eqb, List, [], ◌∷◌, ◌++◌, length, take, drop, sym, refl, ap, ◌∙◌, arith, length-append, length-drop, length-take}
-use Rattle.std.proofs.lemmas.List.{drop_at, take_at, length-take-le, drop-take}
-use Rattle.std.proofs.lemmas.Slice.{drop-put_mid, take-put_mid_below}
+use Rattle.std.proofs.Common.{◌≡◌, ℕ, suc, ◌<◌, ◌≤◌, Bool, true, false, eqb, List, [], ◌∷◌, length, refl, ap, ◌∙◌, arith}
 use Rattle.memtable.specs.Memtable.{memtable}
 use Rattle.table.specs.declared.cursor.Cursor.{Cursor}
 use Rattle.table.specs.declared.lookup.Lookup.{Lookup}
@@ -15,7 +13,7 @@ use Rattle.manifest.specs.declared.fields.Half.TheVariants.{First, Second}
 use Rattle.manifest.specs.declared.fields.Manifest.{Manifest}
 use Rattle.flushing_store.specs.Control.{memory_words, wraps, base, merging, phase_of, phase_number, stage_of, stage_number, base_words, base_from, manifest_words, manifest_from, lookup_words, lookup_from, merging_words, merging_from, control_of, put_control}
 use Rattle.store.specs.Regions.{region, within, wrap}
-use Rattle.store.proofs.RegionLaws.{length_within, region_same, region_above, region_below, length_region}
+use Rattle.store.proofs.RegionLaws.{length_within, region_same, region_above, region_below}
 use Rattle.flushing_store.specs.declared.control.Phase.{Phase}
 use Rattle.flushing_store.specs.declared.control.Phase.TheVariants.{Idle, Shown, FirstList, AfterWhole, AfterTorn, Getting, Writing, Merging as MergingPhase, Closed, Placed, Settled, Listed, Committed}
 use Rattle.flushing_store.specs.declared.control.Base.{Base}

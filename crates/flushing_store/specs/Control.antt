@@ -5,7 +5,7 @@
 --   control_of m       the control words, as a struct
 --   put_control m k    the memory with other control words
 --   to_phase k p       another phase, and all else as it was; the like for other parts
-use Rattle.std.specs.Prelude.{ℕ, ◌%◌, List, [], ◌∷◌, ◌++◌, take, drop, ◌==◌, slice_index}
+use Rattle.std.specs.Prelude.{ℕ, List, [], ◌∷◌, ◌==◌, slice_index}
 use Rattle.value.specs.Versions.{pick}
 use Rattle.memtable.specs.Memtable.{memtable}
 use Rattle.memtable.specs.declared.memtable.Memtable.{Memtable}
@@ -22,6 +22,7 @@ use Rattle.flushing_store.specs.declared.control.Phase.TheVariants.{Idle, Shown,
 use Rattle.flushing_store.specs.declared.control.Base.{Base}
 use Rattle.flushing_store.specs.declared.control.Merging.{Merging}
 use Rattle.flushing_store.specs.declared.control.Control.{Control}
+use Rattle.store.specs.Regions.{wrap, region, within}
 
 -- REGIONS
 abbrev pub memory_words : ℕ

@@ -7,7 +7,6 @@ use Rattle.std.specs.Prelude.{ℕ, false, List, [], Some, None, Option, nat_lt}
 use Rattle.value.specs.Versions.{pick, version}
 use Rattle.value.specs.Encoding.{key_at, value_at}
 use Rattle.memtable.specs.Arena.{gone_at, moment_at, key_at as key_in}
-use Rattle.memtable.specs.Memtable.{found}
 use Rattle.table.specs.Row.{octets}
 use Rattle.table.specs.Lookup.{begun, with_page, loaded}
 use Rattle.table.specs.declared.lookup.Lookup.{Lookup}
@@ -15,7 +14,7 @@ use Rattle.store.specs.House.{a_key}
 use Rattle.store.specs.Promise.{Step, tells, done}
 use Rattle.store.specs.Acts.{stepped}
 use Rattle.flushing_store.specs.Control.{put_control, to_phase, stage_region, ring_of}
-use Rattle.store.specs.Regions.{index_of, arena_of, sought}
+use Rattle.store.specs.Regions.{arena_of, sought}
 use Rattle.flushing_store.specs.Stage.{staged}
 use Rattle.flushing_store.specs.Look.{extent_of, looked, page_in, asked}
 use Rattle.store.specs.Shown.{row_at, row_of}

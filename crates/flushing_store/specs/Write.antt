@@ -5,26 +5,24 @@
 --   accepted k m v      the same, where the table is known not to have its key at its moment
 --   wrote_on k m p      a page came that tells whether it has
 --   wrote_by k m l      all pages came that the lookup wanted
-use Rattle.std.specs.Prelude.{ℕ, ◌+◌, ◌*◌, List, length, Some, None, Option, ◌==◌, nat_le, nat_lt}
+use Rattle.std.specs.Prelude.{ℕ, ◌+◌, List, length, Some, None, Option, ◌==◌, nat_lt}
 use Rattle.value.specs.Versions.{pick, Version, version}
-use Rattle.memtable.specs.Arena.{appended, key_at, moment_at}
-use Rattle.memtable.specs.Index.{entered}
-use Rattle.memtable.specs.Memtable.{accepts, one_more, seek_place, written_at}
+use Rattle.memtable.specs.Arena.{key_at, moment_at}
 use Rattle.memtable.specs.declared.memtable.Memtable.{Memtable}
 use Rattle.table.specs.Row.{octets}
 use Rattle.table.specs.Lookup.{begun, with_page}
 use Rattle.table.specs.declared.lookup.Lookup.{Lookup}
-use Rattle.store.specs.House.{a_key}
 use Rattle.store.specs.Promise.{Step, done, refused}
 use Rattle.store.specs.Acts.{stepped}
 use Rattle.flushing_store.specs.Control.{base, control, put_control, to_phase, stage_region, ring_of}
-use Rattle.store.specs.Regions.{wrap, within, index_of, arena_of}
+use Rattle.store.specs.Regions.{wrap, in_arena, in_index}
 use Rattle.flushing_store.specs.Stage.{staged, staged_version}
 use Rattle.flushing_store.specs.Look.{extent_of, looked, page_in, asked}
 use Rattle.flushing_store.specs.declared.look.Looked.{Looked}
 use Rattle.flushing_store.specs.declared.look.Looked.TheVariants.{On, Found, Missing}
 use Rattle.flushing_store.specs.declared.control.Phase.TheVariants.{Idle, Writing}
 use Rattle.flushing_store.specs.declared.control.Control.{Control}
+use Rattle.store.specs.Checks.{checked, key_size, value_size, proper_moment, not_earlier, unwritten, roomy, within_pages}
 
 unfoldable pub put_in : Control → ℕ → Memtable → Version → List ℕ → List ℕ
 put_in k place t v m =

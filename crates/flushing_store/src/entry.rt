@@ -1,8 +1,8 @@
 // One step of the machine, as the world outside calls it: events by number, acts by an enum and a lent row.
 ghost use Rattle.std.specs.Prelude.{◌≡◌, ◌≤◌, length};
 ghost use Rattle.store.specs.Acts.{Does};
-ghost use Rattle.flushing_store.specs.Own.{went_on, paged, turned};
-ghost use Rattle.store.specs.Event.{event_fits, event_of};
+ghost use Rattle.flushing_store.specs.Own.{went_on, paged, turned, own};
+ghost use Rattle.store.specs.Event.{meaning};
 ghost use Rattle.store.specs.Entry.{StepSays, step_fits};
 
 use crate::control::{Control, MEMORY, Phase};
@@ -12,15 +12,8 @@ use crate::octets::cut_into;
 use crate::power::{first_list, power, second_list};
 use crate::words::{load, turn_to};
 use crate::write::{write, write_on};
-use store::{ROW, Told};
+use store::{Event, ROW, Refusal, Told};
 use value::Version;
-
-// Are the event's number and its rows such as a step takes?
-fn fits(kind: u64, one: &[u8], two: &[u8]) -> bool
-    ensures { result ≡ event_fits kind one.now two.now }
-{
-    kind <= 12 && one.len() <= 4096 && two.len() <= 4096
-}
 
 // Goes on with what is under way.
 fn go_on(memory: &mut [u64; MEMORY], control: Control, out: &mut [u64; ROW]) -> Told
@@ -43,7 +36,7 @@ fn go_on(memory: &mut [u64; MEMORY], control: Control, out: &mut [u64; ROW]) -> 
             Told::Settle
         }
         Phase::Committed => commit(memory, control),
-        _ => Told::No(2),
+        _ => Told::No(Refusal::Unknown as u64),
     }
 }
 
@@ -65,65 +58,61 @@ fn take_page(
         Phase::Getting => get_on(memory, control, &page, out),
         Phase::Writing => write_on(memory, control, &page),
         Phase::Merging => merge_page(memory, control, &page, out),
-        _ => Told::No(2),
+        _ => Told::No(Refusal::Unknown as u64),
     }
 }
 
 fn take_turn(
     memory: &mut [u64; MEMORY],
     control: Control,
-    kind: u64,
-    n: u64,
-    one: &[u8],
-    two: &[u8],
+    event: Event<'_>,
     out: &mut [u64; ROW],
 ) -> Told
-    requires { kind ≤ 12 }
     ensures whole { length out.new ≡ length out.old }
-    ensures says { Does (turned control memory.old (event_of kind n one.now two.now)) result out.old memory.new out.new }
+    ensures says { Does (turned control memory.old (meaning event.entry)) result out.old memory.new out.new }
 {
-    match kind {
-        0 => power(memory, control, n),
-        1 => write(
+    match event {
+        Event::On(pages) => power(memory, control, pages),
+        Event::Write(key, moment, value) => write(
             memory,
             control,
             Version {
-                key: one,
-                moment: n,
+                key,
+                moment,
                 gone: false,
-                value: two,
+                value,
             },
         ),
-        2 => write(
+        Event::Erase(key, moment) => write(
             memory,
             control,
             Version {
-                key: one,
-                moment: n,
+                key,
+                moment,
                 gone: true,
                 value: &[],
             },
         ),
-        3 => get(memory, control, one, n, out),
-        9 => flush(memory, control, out),
-        11 => take_page(memory, control, two, out),
-        12 => go_on(memory, control, out),
-        _ => Told::No(2),
+        Event::Get(key, moment) => get(memory, control, key, moment, out),
+        Event::Flush => flush(memory, control, out),
+        Event::Page(bytes) => take_page(memory, control, bytes, out),
+        Event::Next => go_on(memory, control, out),
+        _ => Told::No(Refusal::Unknown as u64),
     }
 }
 
 pub fn step(memory: &mut [u64], kind: u64, n: u64, one: &[u8], two: &[u8], out: &mut [u64]) -> Told
-    ensures { StepSays memory.old kind n one.now two.now out.old (step_fits memory.old kind one.now two.now out.old) result memory.new out.new }
+    ensures { StepSays own memory.old kind n one.now two.now out.old (step_fits own memory.old kind one.now two.now out.old) result memory.new out.new }
 {
     let Some(memory) = memory.as_mut_array::<MEMORY>() else {
-        return Told::No(0);
+        return Told::No(Refusal::Misfit as u64);
     };
     let Some(out) = out.first_chunk_mut::<ROW>() else {
-        return Told::No(0);
+        return Told::No(Refusal::Misfit as u64);
     };
-    if !fits(kind, one, two) {
-        return Told::No(0);
-    }
+    let Some(event) = Event::numbered(kind, n, one, two) else {
+        return Told::No(Refusal::Misfit as u64);
+    };
     let control = load(memory);
-    take_turn(memory, control, kind, n, one, two, out)
+    take_turn(memory, control, event, out)
 }

@@ -12,7 +12,7 @@ use crate::turn::{Deed, Turn};
 use crate::words::save;
 use manifest::slot;
 use memtable::empty;
-use store::{ROW, Told};
+use store::{ROW, Refusal, Told};
 use table::{Cursor, Want, Writer};
 
 fn is_more(deed: Deed) -> bool
@@ -47,7 +47,7 @@ fn perform(memory: &mut [u64; MEMORY], turn: Turn, out: &mut [u64; ROW]) -> Told
     ensures { Does (performed turn.control turn.deed memory.old) result out.old memory.new out.new }
 {
     let told = match turn.deed {
-        Deed::More => Told::No(2),
+        Deed::More => Told::No(Refusal::Unknown as u64),
         Deed::Fetch(page) => Told::Read(page),
         Deed::Data(page, n) => {
             put_page(&memory[151512..152016], n, out);

@@ -6,23 +6,12 @@ ghost use Rattle.store.specs.Regions.{sought};
 
 use crate::control::{Base, Control, MEMORY, Phase};
 use crate::look::{Looked, ask, extent_of, look_staged, take_page};
-use crate::shown::{write_place, write_row};
 use crate::stage::stage;
 use crate::words::turn_to;
 use memtable::{is_gone, moment_at};
-use store::{ROW, Told};
+use store::{ARENA, ARENA_END, ROW, Told, find, write_row, write_shown};
 use table::{Lookup, begin, read_octets};
-use value::Version;
-
-// The place in the arena of the version that a reading wants.
-fn find(memory: &[u64; MEMORY], control: Control, key: &[u8], moment: u64) -> Option<u64>
-    ensures { result ≡ sought control memory.now key.now moment }
-{
-    control
-        .base
-        .table
-        .find(&memory[64..16448], &memory[16448..147520], key, moment)
-}
+use value::{Version, key_of, value_of};
 
 // Memory does not decide: the table is looked through, unless no key there can be this one.
 fn get_below(memory: &mut [u64; MEMORY], control: Control, key: &[u8], moment: u64) -> Told
@@ -59,13 +48,13 @@ pub fn get(
 ) -> Told
     ensures { Does (got control memory.old key.now moment) result out.old memory.new out.new }
 {
-    let Some(place) = find(memory, control, key, moment) else {
+    let Some(place) = find(control.base.table, memory, key, moment) else {
         return get_below(memory, control, key, moment);
     };
-    if is_gone(&memory[16448..147520], place) {
+    if is_gone(&memory[ARENA..ARENA_END], place) {
         return Told::Done;
     }
-    let len = write_row(&memory[16448..147520], place, out);
+    let len = write_row(&memory[ARENA..ARENA_END], place, out);
     turn_to(memory, control, Phase::Shown);
     Told::Tells(len)
 }
@@ -94,7 +83,8 @@ fn end_get(
                 turn_to(memory, control, Phase::Idle);
                 return Told::Done;
             }
-            let len = write_place(lookup.loaded(&row), place, out);
+            let block = lookup.loaded(&row);
+            let len = write_shown(key_of(block, place), value_of(block, place), out);
             turn_to(memory, control, Phase::Shown);
             Told::Tells(len)
         }

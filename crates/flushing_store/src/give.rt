@@ -8,9 +8,10 @@ ghost use Rattle.flushing_store.specs.Give.{bound_after, brought, brought_length
 
 use crate::control::MEMORY;
 use crate::octets::put_octets;
-use crate::stage::{read_key, stage};
+use crate::stage::stage;
 use memtable::moment_at;
 use std::cmp::Ordering;
+use store::read_key;
 use table::{Open, Writer};
 use value::{Version, encode, order, part_of};
 
@@ -24,9 +25,7 @@ fn bound_for(memory: &[u64; MEMORY], blocks: u64, key: &[u8]) -> u64
         return NO_BOUND;
     }
     let stage = &memory[147520..147682];
-    let mut last = [0u8; 255];
-    let len = read_key(stage, 0, &mut last);
-    match order(part_of(&last, 0, len), key) {
+    match order(read_key(stage, 0).as_slice(), key) {
         Ordering::Equal => moment_at(stage, 0),
         Ordering::Less => NO_BOUND,
         Ordering::Greater => NO_BOUND,

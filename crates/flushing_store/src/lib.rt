@@ -13,7 +13,6 @@ mod octets;
 mod power;
 mod put;
 mod round;
-mod shown;
 mod stage;
 mod target;
 mod turn;

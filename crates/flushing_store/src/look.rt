@@ -7,12 +7,11 @@ ghost use Rattle.flushing_store.specs.Control.{stage_region};
 ghost use Rattle.flushing_store.specs.Look.{extent_of as extent_in, looked, page_in, asked};
 
 use crate::control::{Control, MEMORY};
-use crate::stage::read_key;
 use crate::words::save;
 use manifest::Manifest;
-use store::Told;
+use store::{Refusal, Told, read_key};
 use table::{Extent, Load, Lookup, Stage, place_payload};
-use value::{Place, part_of};
+use value::Place;
 
 // What the pages that came for a lookup say.
 #[derive(Clone, Copy)]
@@ -61,9 +60,8 @@ pub fn look_staged(
 ) -> Looked
     ensures { result ≡ looked lookup extent row.now (key_at (stage_region memory.now) 0) moment }
 {
-    let mut key = [0u8; 255];
-    let len = read_key(&memory[147520..147682], 0, &mut key);
-    look(lookup, extent, row, part_of(&key, 0, len), moment)
+    let key = read_key(&memory[147520..147682], 0);
+    look(lookup, extent, row, key.as_slice(), moment)
 }
 
 // A page came: it goes to its place.
@@ -86,7 +84,7 @@ pub fn ask(memory: &mut [u64; MEMORY], control: Control, lookup: Lookup) -> Told
     ensures { Quiet (asked control memory.old lookup) result memory.new }
 {
     let Some(page) = lookup.load.wants() else {
-        return Told::No(2);
+        return Told::No(Refusal::Unknown as u64);
     };
     save(memory, Control { lookup, ..control });
     Told::Read(page)

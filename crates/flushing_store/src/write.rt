@@ -9,97 +9,15 @@ ghost use Rattle.store.specs.Checks.{key_size, value_size, proper_moment, not_ea
 
 use crate::control::{Base, Control, MEMORY, Phase};
 use crate::look::{Looked, ask, extent_of, look_staged, take_page};
-use crate::stage::{read_key, read_value, stage};
+use crate::stage::stage;
 use crate::words::{save, turn_to};
-use memtable::{Memtable, append, enter, is_gone, moment_at};
-use store::Told;
+use memtable::{Memtable, is_gone, moment_at};
+use store::{
+    Refusal, Told, key_size, not_earlier, proper_moment, put_in_table, read_key, read_value, roomy,
+    unwritten, value_size, within_pages,
+};
 use table::{Lookup, begin, read_octets};
-use value::{Version, part_of};
-
-// The length of a key that may be written.
-fn key_size(key: &[u8]) -> Option<u64>
-    ensures { result ≡ key_size key.now }
-{
-    let n = key.len();
-    if n < 1 || n > 255 {
-        None
-    } else {
-        Some(n as u64)
-    }
-}
-
-// The length of a value that may be written.
-fn value_size(value: &[u8]) -> Option<u64>
-    ensures { result ≡ value_size value.now }
-{
-    if value.len() > 1024 {
-        None
-    } else {
-        Some(value.len() as u64)
-    }
-}
-
-fn proper_moment(moment: u64) -> Option<u64>
-    ensures { result ≡ proper_moment moment }
-{
-    if moment < 0x8000_0000_0000_0000 {
-        Some(moment)
-    } else {
-        None
-    }
-}
-
-// A moment that is not below the last write's.
-fn not_earlier(last: u64, moment: u64) -> Option<u64>
-    ensures { result ≡ not_earlier last moment }
-{
-    if moment < last { None } else { Some(moment) }
-}
-
-// Where a version goes in the index, if its key was not written at this moment, as far as memory knows.
-fn unwritten(table: Memtable, memory: &[u64; MEMORY], key: &[u8], moment: u64) -> Option<u64>
-    ensures { result ≡ unwritten_at table memory.now key.now moment }
-{
-    let index = &memory[64..16448];
-    let arena = &memory[16448..147520];
-    if table.written_at(index, arena, key, moment) {
-        return None;
-    }
-    Some(table.seek(index, arena, key, moment))
-}
-
-// The memtable with a version more, if what is not safe does not weigh too much then.
-fn roomy(table: Memtable, key: u64, value: u64) -> Option<Memtable>
-    ensures { result ≡ roomy_for table key value }
-{
-    if !table.accepts(16384, 131072, key, value) {
-        return None;
-    }
-    Some(table.with_one(16384, 131072, key, value))
-}
-
-// What has to be kept, if it is no more than a quarter of the pages' bytes.
-fn within_pages(pages: u64, weight: u64) -> Option<u64>
-    ensures { result ≡ within_pages pages weight }
-{
-    if weight > pages.saturating_mul(128) {
-        None
-    } else {
-        Some(weight)
-    }
-}
-
-fn put_in_arena(memory: &mut [u64; MEMORY], used: u64, version: Version<'_>)
-    ensures { memory.new ≡ in_arena used (said version.entry) memory.old }
-{
-    append(&mut memory[16448..147520], used, version);
-}
-
-fn put_in_index(memory: &mut [u64; MEMORY], table: Memtable, place: u64)
-    ensures { memory.new ≡ in_index table place memory.old }
-{
-    enter(&mut memory[64..16448], table.versions, place, table.used);
-}
+use value::Version;
 
 fn put_version(
     memory: &mut [u64; MEMORY],
@@ -110,8 +28,7 @@ fn put_version(
 )
     ensures { memory.new ≡ put_in control place table (said version.entry) memory.old }
 {
-    put_in_arena(memory, control.base.table.used, version);
-    put_in_index(memory, control.base.table, place);
+    put_in_table(memory, control.base.table, place, version);
     let base = Base {
         phase: Phase::Idle,
         pages: control.base.pages,
@@ -126,18 +43,18 @@ fn accept(memory: &mut [u64; MEMORY], control: Control, version: Version<'_>) ->
     ensures { Quiet (accepted control memory.old (said version.entry)) result memory.new }
 {
     let Some(place) = unwritten(control.base.table, memory, version.key, version.moment) else {
-        return Told::No(3);
+        return Told::No(Refusal::Moment as u64);
     };
     let Some(table) = roomy(
         control.base.table,
         version.key.len() as u64,
         version.value.len() as u64,
     ) else {
-        return Told::No(7);
+        return Told::No(Refusal::Unsafe as u64);
     };
     let all = control.manifest.weight.all.wrapping_add(table.weight);
     let Some(_) = within_pages(control.base.pages, all) else {
-        return Told::No(8);
+        return Told::No(Refusal::Full as u64);
     };
     put_version(memory, control, place, table, version);
     Told::Done
@@ -158,16 +75,16 @@ pub fn write(memory: &mut [u64; MEMORY], control: Control, version: Version<'_>)
     ensures { Quiet (wrote control memory.old (said version.entry)) result memory.new }
 {
     let Some(_) = key_size(version.key) else {
-        return Told::No(6);
+        return Told::No(Refusal::Limits as u64);
     };
     let Some(_) = value_size(version.value) else {
-        return Told::No(6);
+        return Told::No(Refusal::Limits as u64);
     };
     let Some(moment) = proper_moment(version.moment) else {
-        return Told::No(6);
+        return Told::No(Refusal::Limits as u64);
     };
     let Some(moment) = not_earlier(control.base.last, moment) else {
-        return Told::No(3);
+        return Told::No(Refusal::Moment as u64);
     };
     let Some(lookup) = seek_below(control, moment) else {
         return accept(memory, control, Version { moment, ..version });
@@ -186,10 +103,8 @@ fn finish(memory: &mut [u64; MEMORY], control: Control) -> Told
 {
     turn_to(memory, control, Phase::Idle);
     let stage = &memory[147520..147682];
-    let mut key = [0u8; 255];
-    let key_len = read_key(stage, 0, &mut key);
-    let mut value = [0u8; 1024];
-    let value_len = read_value(stage, 0, &mut value);
+    let key = read_key(stage, 0);
+    let value = read_value::<1024>(stage, 0);
     let moment = moment_at(stage, 0);
     let gone = is_gone(stage, 0);
     let base = Base {
@@ -200,10 +115,10 @@ fn finish(memory: &mut [u64; MEMORY], control: Control) -> Told
         memory,
         Control { base, ..control },
         Version {
-            key: part_of(&key, 0, key_len),
+            key: key.as_slice(),
             moment,
             gone,
-            value: part_of(&value, 0, value_len),
+            value: value.as_slice(),
         },
     )
 }
@@ -222,7 +137,7 @@ fn end_look(memory: &mut [u64; MEMORY], control: Control, lookup: Lookup) -> Tol
         Looked::Found(place) => {
             if place.moment == moment {
                 turn_to(memory, control, Phase::Idle);
-                return Told::No(3);
+                return Told::No(Refusal::Moment as u64);
             }
             finish(memory, control)
         }
