@@ -10,31 +10,31 @@ pub const MEMORY: usize = 152520;
 #[derive(Clone, Copy)]
 pub enum Phase {
     // Nothing: a command may come.
-    Idle,
+    Idle = 0,
     // The row that a get shows was told.
-    Shown,
+    Shown = 1,
     // Power is there, and page 0 was asked for.
-    FirstList,
+    FirstList = 2,
     // So was page 1; the list on page 0 is whole.
-    AfterWhole,
+    AfterWhole = 3,
     // The same, but the list on page 0 is torn.
-    AfterTorn,
+    AfterTorn = 4,
     // The table is looked through for a get.
-    Getting,
+    Getting = 5,
     // The same for a write, whose key may have been written at its moment.
-    Writing,
+    Writing = 6,
     // Table and memory are merged into the free half.
-    Merging,
+    Merging = 7,
     // The last page of data was put.
-    Closed,
+    Closed = 8,
     // The last page of positions was put.
-    Placed,
+    Placed = 9,
     // The new table is settled.
-    Settled,
+    Settled = 10,
     // The new list was put.
-    Listed,
+    Listed = 11,
     // It is settled.
-    Committed,
+    Committed = 12,
 }
 
 // The number of pages, the moment of the last write, and what is in memory.

@@ -8,12 +8,11 @@ ghost use Rattle.store.specs.Entry.{StepSays, step_fits};
 use crate::control::{Control, MEMORY, Phase};
 use crate::flush::{commit, flush, merge_on, merge_page, put_last, put_new_list};
 use crate::get::{get, get_on};
-use crate::octets::cut_into;
 use crate::power::{first_list, power, second_list};
 use crate::words::{load, turn_to};
 use crate::write::{write, write_on};
 use store::{Event, ROW, Refusal, Told};
-use value::Version;
+use value::{Version, padded};
 
 // Goes on with what is under way.
 fn go_on(memory: &mut [u64; MEMORY], control: Control, out: &mut [u64; ROW]) -> Told
@@ -49,8 +48,7 @@ fn take_page(
 ) -> Told
     ensures { Does (paged control memory.old bytes.now control.base.phase) result out.old memory.new out.new }
 {
-    let mut page = [0u8; 512];
-    cut_into(bytes, &mut page);
+    let page = padded::<512>(bytes);
     match control.base.phase {
         Phase::FirstList => first_list(memory, control, &page),
         Phase::AfterWhole => second_list(memory, control, true, &page),

@@ -1,7 +1,7 @@
 // Flushing: table and memory are merged into the free half, a page at a time; the new table is settled, the list that names it is put and settled, and memory is emptied.
 ghost use Rattle.std.specs.Prelude.{◌≡◌, ◌≤◌, length};
 ghost use Rattle.store.specs.Acts.{Does, Quiet};
-ghost use Rattle.flushing_store.specs.Flush.{is_more, spun, performed, flushed_step, page_merged, merged_on, last_step, listed_step, committed_step};
+ghost use Rattle.flushing_store.specs.Flush.{spun, performed, flushed_step, page_merged, merged_on, last_step, listed_step, committed_step};
 
 use crate::control::{Base, Control, MEMORY, Merging, Phase};
 use crate::look::extent_of;
@@ -15,15 +15,6 @@ use memtable::empty;
 use store::{ROW, Refusal, Told};
 use table::{Cursor, Want, Writer};
 
-fn is_more(deed: Deed) -> bool
-    ensures { result ≡ is_more deed }
-{
-    match deed {
-        Deed::More => true,
-        _ => false,
-    }
-}
-
 // Rounds until something is to be done: at most 1,010 fill a page.
 fn spin(memory: &mut [u64; MEMORY], control: Control) -> Turn
     ensures turn { result ≡ (spun 1024 control memory.old).turn }
@@ -31,10 +22,10 @@ fn spin(memory: &mut [u64; MEMORY], control: Control) -> Turn
 {
     let mut turn = Turn {
         control,
-        deed: Deed::More,
+        deed: None,
     };
     'rounds: for i in 0..1024usize {
-        if !is_more(turn.deed) {
+        if turn.deed.is_some() {
             break 'rounds;
         }
         turn = round(memory, turn.control);
@@ -47,17 +38,17 @@ fn perform(memory: &mut [u64; MEMORY], turn: Turn, out: &mut [u64; ROW]) -> Told
     ensures { Does (performed turn.control turn.deed memory.old) result out.old memory.new out.new }
 {
     let told = match turn.deed {
-        Deed::More => Told::No(Refusal::Unknown as u64),
-        Deed::Fetch(page) => Told::Read(page),
-        Deed::Data(page, n) => {
+        None => Told::No(Refusal::Unknown as u64),
+        Some(Deed::Fetch(page)) => Told::Read(page),
+        Some(Deed::Data(page, n)) => {
             put_page(&memory[151512..152016], n, out);
             Told::Put(page)
         }
-        Deed::Positions(page, n) => {
+        Some(Deed::Positions(page, n)) => {
             put_page(&memory[152016..152520], n, out);
             Told::Put(page)
         }
-        Deed::Settle => Told::Settle,
+        Some(Deed::Settle) => Told::Settle,
     };
     save(memory, turn.control);
     told

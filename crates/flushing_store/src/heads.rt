@@ -4,7 +4,7 @@ ghost use Rattle.flushing_store.specs.Round.{memory_head, leads, memory_turn, ta
 
 use crate::control::{Control, MEMORY, Merging};
 use crate::give::give;
-use crate::turn::{Deed, Turn};
+use crate::turn::Turn;
 use memtable::{is_gone, moment_at, place_at};
 use merge::{Next, choose};
 use store::{ARENA, ARENA_END, INDEX, read_key, read_value};
@@ -55,7 +55,7 @@ pub fn give_memory(memory: &mut [u64; MEMORY], control: Control, at: u64) -> Tur
     ) else {
         return Turn {
             control,
-            deed: Deed::More,
+            deed: None,
         };
     };
     let merging = Merging {
@@ -65,7 +65,7 @@ pub fn give_memory(memory: &mut [u64; MEMORY], control: Control, at: u64) -> Tur
     };
     Turn {
         control: Control { merging, ..control },
-        deed: Deed::More,
+        deed: None,
     }
 }
 
@@ -87,7 +87,7 @@ pub fn give_table(memory: &mut [u64; MEMORY], control: Control, block: &[u8], pl
     ) else {
         return Turn {
             control,
-            deed: Deed::More,
+            deed: None,
         };
     };
     let merging = Merging {
@@ -97,6 +97,6 @@ pub fn give_table(memory: &mut [u64; MEMORY], control: Control, block: &[u8], pl
     };
     Turn {
         control: Control { merging, ..control },
-        deed: Deed::More,
+        deed: None,
     }
 }

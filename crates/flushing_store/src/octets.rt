@@ -5,18 +5,11 @@ ghost use Rattle.flushing_store.specs.Octets.{put_octets};
 
 use value::byte;
 
-// As many bytes as the row has; where there are no more, 0.
-pub fn cut_into(bytes: &[u8], row: &mut [u8])
+// A byte a word, over a whole row; where there are no more bytes, 0.
+pub fn widen_into(bytes: &[u8], row: &mut [u64])
     ensures { row.new ≡ octets (length row.old) bytes.now }
 {
-    for i in 0..row.len() {
-        row[i] = byte(bytes, i);
-    }
-}
-
-fn widen_into(bytes: &[u8], row: &mut [u64])
-    ensures { row.new ≡ octets (length row.old) bytes.now }
-{
+    // By index: a loop over a row that is zipped with bytes leaves its proof without the values that were written.
     for i in 0..row.len() {
         row[i] = u64::from(byte(bytes, i));
     }

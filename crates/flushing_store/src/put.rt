@@ -4,19 +4,17 @@ ghost use Rattle.table.specs.Row.{octets};
 ghost use Rattle.table.specs.Stream.{sealed};
 ghost use Rattle.manifest.specs.Manifest.{manifest_page};
 
+use crate::octets::widen_into;
 use manifest::Manifest;
 use store::ROW;
 use table::{fill, read_octets};
 use value::{byte, part_of};
 
 // A page's bytes at the front of the row.
-fn tell_page(page: &[u8], out: &mut [u64; ROW])
-    requires { length page.now ≡ 512 }
+fn tell_page(page: &[u8; 512], out: &mut [u64; ROW])
     ensures { out.new ≡ page.now ++ drop 512 out.old }
 {
-    for i in 0..512usize {
-        out[i] = u64::from(page[i]);
-    }
+    widen_into(page, &mut out[..512]);
 }
 
 // The page with the first n bytes of a row of words, at most 504, and its sum.

@@ -25,7 +25,7 @@ fn settle(control: Control) -> Turn
     };
     Turn {
         control: Control { merging, ..control },
-        deed: Deed::Settle,
+        deed: Some(Deed::Settle),
     }
 }
 
@@ -42,7 +42,7 @@ fn put_data(control: Control) -> Turn
     let page = data_of(control).wrapping_add(writer.stream.put);
     Turn {
         control: Control { merging, ..control },
-        deed: Deed::Data(page, writer.stream.fill),
+        deed: Some(Deed::Data(page, writer.stream.fill)),
     }
 }
 
@@ -59,7 +59,7 @@ pub fn put_positions(control: Control) -> Turn
     let page = start_of(control).wrapping_add(writer.positions.put);
     Turn {
         control: Control { merging, ..control },
-        deed: Deed::Positions(page, writer.positions.fill),
+        deed: Some(Deed::Positions(page, writer.positions.fill)),
     }
 }
 
@@ -86,7 +86,7 @@ fn take_bytes(memory: &mut [u64; MEMORY], control: Control, n: u64) -> Turn
     };
     Turn {
         control: Control { merging, ..control },
-        deed: Deed::More,
+        deed: None,
     }
 }
 
@@ -178,7 +178,7 @@ fn next_version(memory: &mut [u64; MEMORY], control: Control) -> Turn
     };
     Turn {
         control,
-        deed: Deed::Fetch(fetched),
+        deed: Some(Deed::Fetch(fetched)),
     }
 }
 

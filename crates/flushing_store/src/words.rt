@@ -1,53 +1,50 @@
 // The machine's control state in the first 48 words of its memory.
 ghost use Rattle.std.specs.Prelude.{◌≡◌, length};
-ghost use Rattle.flushing_store.specs.Control.{phase_of, phase_number, stage_of, stage_number, base_from, manifest_from, lookup_from, merging_from, wraps, base_words, manifest_words, lookup_words, merging_words, control_of, put_control, to_phase};
-ghost use Rattle.manifest.specs.Manifest.{half_of, half_number, flag};
+ghost use Rattle.flushing_store.specs.Control.{stage_of, stage_number, base_from, manifest_from, lookup_from, merging_from, wraps, base_words, manifest_words, lookup_words, merging_words, control_of, put_control, to_phase};
+ghost use Rattle.manifest.specs.Manifest.{half_of, half_number};
 
 use crate::control::{Base, Control, MEMORY, Merging, Phase};
 use manifest::{Half, Layout, Manifest, Moments, Table, Weight};
 use memtable::Memtable;
 use table::{Cursor, Entry, Filling, Hand, Load, Lookup, Open, Search, Span, Stage, Writer};
 
-fn phase_from(n: u64) -> Phase
-    ensures { result ≡ phase_of n }
-{
-    match n {
-        1 => Phase::Shown,
-        2 => Phase::FirstList,
-        3 => Phase::AfterWhole,
-        4 => Phase::AfterTorn,
-        5 => Phase::Getting,
-        6 => Phase::Writing,
-        7 => Phase::Merging,
-        8 => Phase::Closed,
-        9 => Phase::Placed,
-        10 => Phase::Settled,
-        11 => Phase::Listed,
-        12 => Phase::Committed,
-        _ => Phase::Idle,
+impl From<u64> for Phase {
+    ghost use Rattle.std.specs.Prelude.{◌≡◌};
+    ghost use Rattle.flushing_store.specs.Control.{phase_of};
+
+    ghost from_gives = { λ n phase. phase ≡ phase_of n };
+
+    fn from(n: u64) -> Phase {
+        match n {
+            1 => Phase::Shown,
+            2 => Phase::FirstList,
+            3 => Phase::AfterWhole,
+            4 => Phase::AfterTorn,
+            5 => Phase::Getting,
+            6 => Phase::Writing,
+            7 => Phase::Merging,
+            8 => Phase::Closed,
+            9 => Phase::Placed,
+            10 => Phase::Settled,
+            11 => Phase::Listed,
+            12 => Phase::Committed,
+            _ => Phase::Idle,
+        }
     }
 }
 
-fn phase_word(phase: Phase) -> u64
-    ensures { result ≡ phase_number phase }
-{
-    match phase {
-        Phase::Idle => 0,
-        Phase::Shown => 1,
-        Phase::FirstList => 2,
-        Phase::AfterWhole => 3,
-        Phase::AfterTorn => 4,
-        Phase::Getting => 5,
-        Phase::Writing => 6,
-        Phase::Merging => 7,
-        Phase::Closed => 8,
-        Phase::Placed => 9,
-        Phase::Settled => 10,
-        Phase::Listed => 11,
-        Phase::Committed => 12,
+impl From<Phase> for u64 {
+    ghost use Rattle.std.specs.Prelude.{◌≡◌};
+    ghost use Rattle.flushing_store.specs.Control.{phase_number};
+
+    ghost from_gives = { λ phase n. n ≡ phase_number phase };
+
+    fn from(phase: Phase) -> u64 {
+        phase as u64
     }
 }
 
+// The stage and the half are of crates below, so that `From` cannot be implemented for them here.
 fn stage_from(n: u64) -> Stage
     ensures { result ≡ stage_of n }
 {
@@ -83,18 +80,12 @@ fn half_word(half: Half) -> u64
     }
 }
 
-fn flag_word(b: bool) -> u64
-    ensures { result ≡ flag b }
-{
-    if b { 1 } else { 0 }
-}
-
 fn load_base(row: &[u64]) -> Base
     requires { length row.now ≡ 6 }
     ensures { result ≡ base_from row.now }
 {
     Base {
-        phase: phase_from(row[0]),
+        phase: Phase::from(row[0]),
         pages: row[1],
         last: row[2],
         table: Memtable {
@@ -109,7 +100,7 @@ fn base_row(base: Base) -> [u64; 6]
     ensures { result ≡ base_words base }
 {
     [
-        phase_word(base.phase),
+        u64::from(base.phase),
         base.pages,
         base.last,
         base.table.versions,
@@ -167,7 +158,7 @@ fn manifest_row(m: Manifest) -> [u64; 15]
         m.moments.last,
         m.moments.low,
         m.weight.all,
-        flag_word(m.weight.exact),
+        u64::from(m.weight.exact),
         m.tables,
         m.table.start,
         m.table.data_at,
