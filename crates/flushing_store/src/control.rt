@@ -6,6 +6,24 @@ use table::{Cursor, Lookup, Writer};
 // How many numbers the machine's memory has.
 pub const MEMORY: usize = 152520;
 
+// Behind the memtable's arena lie the version that a command under way is about,
+pub const STAGE: usize = 147520;
+
+// the pages of data that were read,
+pub const RING: usize = 147682;
+
+// the page of positions that was read,
+pub const LIST: usize = 149698;
+
+// the bytes in a writer's hand,
+pub const HAND: usize = 150202;
+
+// its page of data,
+pub const DATA: usize = 151512;
+
+// and its page of positions.
+pub const ENTRIES: usize = 152016;
+
 // What is under way between two events.
 #[derive(Clone, Copy)]
 pub enum Phase {

@@ -3,7 +3,7 @@ ghost use Rattle.std.specs.Prelude.{◌≡◌, ◌≤◌, length};
 ghost use Rattle.store.specs.Acts.{Does, Quiet};
 ghost use Rattle.flushing_store.specs.Flush.{spun, performed, flushed_step, page_merged, merged_on, last_step, listed_step, committed_step};
 
-use crate::control::{Base, Control, MEMORY, Merging, Phase};
+use crate::control::{Base, Control, DATA, ENTRIES, HAND, LIST, MEMORY, Merging, Phase, RING};
 use crate::look::extent_of;
 use crate::put::{put_list, put_page};
 use crate::round::{put_positions, round};
@@ -41,11 +41,11 @@ fn perform(memory: &mut [u64; MEMORY], turn: Turn, out: &mut [u64; ROW]) -> Told
         None => Told::No(Refusal::Unknown as u64),
         Some(Deed::Fetch(page)) => Told::Read(page),
         Some(Deed::Data(page, n)) => {
-            put_page(&memory[151512..152016], n, out);
+            put_page(&memory[DATA..ENTRIES], n, out);
             Told::Put(page)
         }
         Some(Deed::Positions(page, n)) => {
-            put_page(&memory[152016..152520], n, out);
+            put_page(&memory[ENTRIES..MEMORY], n, out);
             Told::Put(page)
         }
         Some(Deed::Settle) => Told::Settle,
@@ -95,9 +95,9 @@ fn take_table_page(memory: &mut [u64; MEMORY], control: Control, page: &[u8]) ->
     ensures memory { memory.new ≡ (page_merged control memory.old page.now).memory }
 {
     let cursor = control.merging.cursor;
-    let cursor = match cursor.wants(extent_of(control.manifest), &memory[149698..150202]) {
-        Want::Positions(_) => cursor.take_positions(page, &mut memory[149698..150202]),
-        Want::Data(_) => cursor.take_data(page, &mut memory[147682..149698]),
+    let cursor = match cursor.wants(extent_of(control.manifest), &memory[LIST..HAND]) {
+        Want::Positions(_) => cursor.take_positions(page, &mut memory[LIST..HAND]),
+        Want::Data(_) => cursor.take_data(page, &mut memory[RING..LIST]),
         Want::Head => cursor,
         Want::End => cursor,
     };

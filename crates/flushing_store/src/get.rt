@@ -4,7 +4,7 @@ ghost use Rattle.store.specs.Acts.{Does, Quiet};
 ghost use Rattle.flushing_store.specs.Get.{got, got_below, got_by, got_on};
 ghost use Rattle.store.specs.Regions.{sought};
 
-use crate::control::{Base, Control, MEMORY, Phase};
+use crate::control::{Base, Control, LIST, MEMORY, Phase, RING, STAGE};
 use crate::look::{Looked, ask, extent_of, look_staged, take_page};
 use crate::stage::stage;
 use crate::words::turn_to;
@@ -69,8 +69,8 @@ fn end_get(
     ensures { Does (got_by control memory.old lookup) result out.old memory.new out.new }
 {
     let mut row = [0u8; 2016];
-    read_octets(&memory[147682..149698], &mut row);
-    let moment = moment_at(&memory[147520..147682], 0);
+    read_octets(&memory[RING..LIST], &mut row);
+    let moment = moment_at(&memory[STAGE..RING], 0);
     let extent = extent_of(control.manifest);
     match look_staged(memory, lookup, extent, &row, moment) {
         Looked::On(next) => ask(memory, control, next),

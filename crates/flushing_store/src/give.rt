@@ -1,19 +1,19 @@
 // A version is handed over to the writer of a table: its bytes go to the hand, behind a bound where it begins a block, and the entry of the block that it ends
 // to the page of positions.
-ghost use Rattle.std.specs.Prelude.{◌≡◌, true, length, take};
+ghost use Rattle.std.specs.Prelude.{◌≡◌, true, false, take, MatchOption};
 ghost use Rattle.value.specs.Said.{said};
 ghost use Rattle.value.specs.Encoding.{in_limits};
 ghost use Rattle.table.specs.Layout.{entry};
-ghost use Rattle.flushing_store.specs.Give.{bound_after, brought, brought_length, ended_block, in_hand, given_writer, given_memory};
+ghost use Rattle.flushing_store.specs.Give.{bound_after, brought, ended_block, in_hand, given_writer, given_memory};
 
-use crate::control::MEMORY;
+use crate::control::{DATA, ENTRIES, HAND, MEMORY, RING, STAGE};
 use crate::octets::put_octets;
 use crate::stage::stage;
 use memtable::moment_at;
 use std::cmp::Ordering;
-use store::read_key;
+use store::{Bytes, read_key};
 use table::{Open, Writer};
-use value::{Version, encode, order, part_of};
+use value::{Version, encode, order};
 
 const NO_BOUND: u64 = 0xffff_ffff_ffff_ffff;
 
@@ -24,7 +24,7 @@ fn bound_for(memory: &[u64; MEMORY], blocks: u64, key: &[u8]) -> u64
     if blocks == 0 {
         return NO_BOUND;
     }
-    let stage = &memory[147520..147682];
+    let stage = &memory[STAGE..RING];
     match order(read_key(stage, 0).as_slice(), key) {
         Ordering::Equal => moment_at(stage, 0),
         Ordering::Less => NO_BOUND,
@@ -32,18 +32,18 @@ fn bound_for(memory: &[u64; MEMORY], blocks: u64, key: &[u8]) -> u64
     }
 }
 
-// What a version brings, at the front of a row; and how many bytes that is. None where it is outside the limits.
-fn bring(begins: bool, bound: u64, version: Version<'_>, row: &mut [u8]) -> Option<usize>
-    requires { length row.old ≡ 1302 }
-    ensures len { result ≡ brought_length begins (said version.entry) }
-    ensures bytes { in_limits (said version.entry) ≡ true → take (length (brought begins bound (said version.entry))) row.new ≡ brought begins bound (said version.entry) }
+// What a version brings. None where it is outside the limits.
+fn bring(begins: bool, bound: u64, version: Version<'_>) -> Option<Bytes<1302>>
+    ensures { MatchOption result (in_limits (said version.entry) ≡ false) (λ b. (in_limits (said version.entry) ≡ true) × (take b.len b.row ≡ brought begins bound (said version.entry))) }
 {
+    let mut row = [0; 1302];
     if begins {
-        row[0..8].copy_from_slice(&bound.to_le_bytes());
-        let size = encode(version, &mut row[8..1302])?;
-        return Some(size + 8);
+        row[..8].copy_from_slice(&bound.to_le_bytes());
+        let len = encode(version, &mut row[8..])?;
+        return Some(Bytes { row, len: 8 + len });
     }
-    encode(version, row)
+    let len = encode(version, &mut row)?;
+    Some(Bytes { row, len })
 }
 
 // Where a block begins, and its length.
@@ -63,7 +63,7 @@ pub fn end_block(memory: &mut [u64; MEMORY], writer: Writer)
         return;
     }
     put_octets(
-        &mut memory[152016..152520],
+        &mut memory[ENTRIES..MEMORY],
         writer.positions.fill,
         &entry_of(writer.block),
     );
@@ -72,7 +72,7 @@ pub fn end_block(memory: &mut [u64; MEMORY], writer: Writer)
 fn put_in_hand(memory: &mut [u64; MEMORY], bytes: &[u8])
     ensures { memory.new ≡ in_hand bytes.now memory.old }
 {
-    put_octets(&mut memory[150202..151512], 0, bytes);
+    put_octets(&mut memory[HAND..DATA], 0, bytes);
 }
 
 // Hands a version over; none where it is outside the limits, and nothing is changed.
@@ -85,11 +85,8 @@ pub fn give(memory: &mut [u64; MEMORY], writer: Writer, version: Version<'_>) ->
         .saturating_add(version.value.len() as u64);
     let begins = writer.begins(size);
     let bound = bound_for(memory, writer.block.count, version.key);
-    let mut row = [0u8; 1302];
-    let Some(len) = bring(begins, bound, version, &mut row) else {
-        return None;
-    };
-    put_in_hand(memory, part_of(&row, 0, len));
+    let bytes = bring(begins, bound, version)?;
+    put_in_hand(memory, bytes.as_slice());
     if begins {
         end_block(memory, writer);
     }

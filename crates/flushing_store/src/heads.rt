@@ -2,7 +2,7 @@
 ghost use Rattle.std.specs.Prelude.{◌≡◌, Bool, length};
 ghost use Rattle.flushing_store.specs.Round.{memory_head, leads, memory_turn, table_turn};
 
-use crate::control::{Control, MEMORY, Merging};
+use crate::control::{Control, HAND, LIST, MEMORY, Merging};
 use crate::give::give;
 use crate::turn::Turn;
 use memtable::{is_gone, moment_at, place_at};
@@ -74,7 +74,7 @@ pub fn give_table(memory: &mut [u64; MEMORY], control: Control, block: &[u8], pl
     ensures turn { result ≡ (table_turn control memory.old block.now place).turn }
     ensures memory { memory.new ≡ (table_turn control memory.old block.now place).memory }
 {
-    let entry = control.merging.cursor.entry(&memory[149698..150202]);
+    let entry = control.merging.cursor.entry(&memory[LIST..HAND]);
     let Some(writer) = give(
         memory,
         control.merging.writer,

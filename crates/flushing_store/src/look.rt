@@ -6,7 +6,7 @@ ghost use Rattle.store.specs.Acts.{Quiet};
 ghost use Rattle.flushing_store.specs.Control.{stage_region};
 ghost use Rattle.flushing_store.specs.Look.{extent_of as extent_in, looked, page_in, asked};
 
-use crate::control::{Control, MEMORY};
+use crate::control::{Control, LIST, MEMORY, RING, STAGE};
 use crate::words::save;
 use manifest::Manifest;
 use store::{Refusal, Told, read_key};
@@ -60,7 +60,7 @@ pub fn look_staged(
 ) -> Looked
     ensures { result ≡ looked lookup extent row.now (key_at (stage_region memory.now) 0) moment }
 {
-    let key = read_key(&memory[147520..147682], 0);
+    let key = read_key(&memory[STAGE..RING], 0);
     look(lookup, extent, row, key.as_slice(), moment)
 }
 
@@ -69,7 +69,7 @@ pub fn take_page(memory: &mut [u64; MEMORY], lookup: Lookup, page: &[u8]) -> Loo
     ensures state { result ≡ with_page lookup }
     ensures row { memory.new ≡ page_in lookup page.now memory.old }
 {
-    place_payload(lookup.load.got, page, &mut memory[147682..149698]);
+    place_payload(lookup.load.got, page, &mut memory[RING..LIST]);
     Lookup {
         load: Load {
             span: lookup.load.span,

@@ -4,11 +4,10 @@ ghost use Rattle.table.specs.Row.{octets};
 ghost use Rattle.table.specs.Stream.{sealed};
 ghost use Rattle.manifest.specs.Manifest.{manifest_page};
 
-use crate::octets::widen_into;
+use crate::octets::{page_octets, widen_into};
 use manifest::Manifest;
 use store::ROW;
-use table::{fill, read_octets};
-use value::{byte, part_of};
+use table::fill;
 
 // A page's bytes at the front of the row.
 fn tell_page(page: &[u8; 512], out: &mut [u64; ROW])
@@ -21,11 +20,8 @@ fn tell_page(page: &[u8; 512], out: &mut [u64; ROW])
 pub fn put_page(row: &[u64], n: u64, out: &mut [u64; ROW])
     ensures { out.new ≡ sealed (octets (min n 504) row.now) ++ drop 512 out.old }
 {
-    let mut bytes = [0u8; 504];
-    read_octets(row, &mut bytes);
-    let len = n.min(504) as usize;
-    let mut page = [0u8; 512];
-    fill(part_of(&bytes, 0, len), &mut page);
+    let mut page = [0; 512];
+    fill(page_octets(row, n).as_slice(), &mut page);
     tell_page(&page, out);
 }
 
@@ -33,7 +29,7 @@ pub fn put_page(row: &[u64], n: u64, out: &mut [u64; ROW])
 pub fn put_list(list: Manifest, out: &mut [u64; ROW])
     ensures { out.new ≡ manifest_page list ++ drop 512 out.old }
 {
-    let mut page = [0u8; 512];
+    let mut page = [0; 512];
     list.encode(&mut page);
     tell_page(&page, out);
 }

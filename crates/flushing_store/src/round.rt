@@ -2,14 +2,14 @@
 ghost use Rattle.std.specs.Prelude.{◌≡◌, length};
 ghost use Rattle.flushing_store.specs.Round.{settled_turn, data_turn, positions_turn, took_bytes, took_turn, closed_turn, head_turn, block_turn, next_turn, round as round_of};
 
-use crate::control::{Base, Control, MEMORY, Merging, Phase};
+use crate::control::{Base, Control, DATA, ENTRIES, HAND, LIST, MEMORY, Merging, Phase, RING};
 use crate::give::end_block;
 use crate::heads::{give_memory, give_table, memory_head, memory_leads};
 use crate::look::extent_of;
-use crate::octets::put_octets;
+use crate::octets::{page_octets, put_octets};
 use crate::target::{data_of, start_of};
 use crate::turn::{Deed, Turn};
-use table::{Due, Want, block_into, read_octets};
+use table::{Due, Want, block_into};
 use value::{Place, part_of};
 
 // So many pages wait at the most before all that wait are settled.
@@ -67,11 +67,9 @@ pub fn put_positions(control: Control) -> Turn
 fn move_bytes(memory: &mut [u64; MEMORY], taken: u64, fill: u64, n: u64)
     ensures { memory.new ≡ took_bytes taken fill n memory.old }
 {
-    let mut bytes = [0u8; 504];
     let from = taken.min(1310) as usize;
-    read_octets(&memory[150202 + from..151512], &mut bytes);
-    let len = n.min(504) as usize;
-    put_octets(&mut memory[151512..152016], fill, part_of(&bytes, 0, len));
+    let bytes = page_octets(&memory[HAND + from..DATA], n);
+    put_octets(&mut memory[DATA..ENTRIES], fill, bytes.as_slice());
 }
 
 fn take_bytes(memory: &mut [u64; MEMORY], control: Control, n: u64) -> Turn
@@ -153,9 +151,9 @@ fn next_in_block(memory: &mut [u64; MEMORY], control: Control) -> Turn
     ensures memory { memory.new ≡ (block_turn control memory.old).memory }
 {
     let cursor = control.merging.cursor;
-    let entry = cursor.entry(&memory[149698..150202]);
+    let entry = cursor.entry(&memory[LIST..HAND]);
     let mut row = [0u8; 1512];
-    let len = block_into(entry, &memory[147682..149698], &mut row);
+    let len = block_into(entry, &memory[RING..LIST], &mut row);
     let block = part_of(&row, 0, len);
     hand_over(memory, control, block, cursor.head(block))
 }
@@ -166,11 +164,7 @@ fn next_version(memory: &mut [u64; MEMORY], control: Control) -> Turn
     ensures memory { memory.new ≡ (next_turn control memory.old).memory }
 {
     let extent = extent_of(control.manifest);
-    let fetched = match control
-        .merging
-        .cursor
-        .wants(extent, &memory[149698..150202])
-    {
+    let fetched = match control.merging.cursor.wants(extent, &memory[LIST..HAND]) {
         Want::Positions(page) => page,
         Want::Data(page) => page,
         Want::Head => return next_in_block(memory, control),

@@ -7,7 +7,7 @@ ghost use Rattle.flushing_store.specs.Write.{put_in, sought_below, accepted, wro
 ghost use Rattle.store.specs.Regions.{in_arena, in_index};
 ghost use Rattle.store.specs.Checks.{key_size, value_size, proper_moment, not_earlier, unwritten as unwritten_at, roomy as roomy_for, within_pages};
 
-use crate::control::{Base, Control, MEMORY, Phase};
+use crate::control::{Base, Control, LIST, MEMORY, Phase, RING, STAGE};
 use crate::look::{Looked, ask, extent_of, look_staged, take_page};
 use crate::stage::stage;
 use crate::words::{save, turn_to};
@@ -102,7 +102,7 @@ fn finish(memory: &mut [u64; MEMORY], control: Control) -> Told
     ensures { Quiet (finished control memory.old) result memory.new }
 {
     turn_to(memory, control, Phase::Idle);
-    let stage = &memory[147520..147682];
+    let stage = &memory[STAGE..RING];
     let key = read_key(stage, 0);
     let value = read_value::<1024>(stage, 0);
     let moment = moment_at(stage, 0);
@@ -128,8 +128,8 @@ fn end_look(memory: &mut [u64; MEMORY], control: Control, lookup: Lookup) -> Tol
     ensures { Quiet (wrote_by control memory.old lookup) result memory.new }
 {
     let mut row = [0u8; 2016];
-    read_octets(&memory[147682..149698], &mut row);
-    let moment = moment_at(&memory[147520..147682], 0);
+    read_octets(&memory[RING..LIST], &mut row);
+    let moment = moment_at(&memory[STAGE..RING], 0);
     let extent = extent_of(control.manifest);
     match look_staged(memory, lookup, extent, &row, moment.wrapping_add(1)) {
         Looked::On(next) => ask(memory, control, next),
