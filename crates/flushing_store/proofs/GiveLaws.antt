@@ -75,8 +75,7 @@ module _ (v : Version) (out : List ℕ) (h : 1294 ≤ length out) where
       let D = drop (encoded_length v) out in
       let size : length (B ++ encoding v) ≡ 8 + n = omega (arith, length-append B (encoding v), length_bytes_of 8 s, length_encoding v) in
       let front : take 8 (cp ++ post) ≡ B = ap (λ x. take 8 (x ++ post)) g ∙ take_at B post 8 (length_bytes_of 8 s) in
-      let joined : B ++ ((encoding v ++ D) ++ rest) ≡ (B ++ encoding v) ++ (D ++ rest) = simp append_assoc in
-      (
+      let joined : B ++ ((encoding v ++ D) ++ rest) ≡ (B ++ encoding v) ++ (D ++ rest) = simp append_assoc in (
         t,
         (λ i. take (8 + n) (front i ++ ((w ∙ bytes_are t) i ++ rest))) ∙ ap (take (8 + n)) joined ∙ take_at (B ++ encoding v) (D ++ rest) (8 + n) size,
       )

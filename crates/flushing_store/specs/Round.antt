@@ -1,5 +1,6 @@
 -- A merge of the table with what is in memory, a round at a time. A round leaves a turn, the control state and what it wants done, and memory.
---   settled_turn, data_turn, positions_turn    enough pages wait; the page of data, or of positions, is put
+--   settled_turn             enough pages wait
+--   put_turn                 a page is put: of data (data_turn), or of positions (positions_turn)
 --   took_turn, took_bytes    bytes in hand go to the page of data
 --   memory_head, leads       the head of what is in memory; does it come before the table's?
 --   memory_turn, table_turn  the one or the other is handed over
@@ -51,15 +52,14 @@ with_writer k w = with_merging k (merging k.merging.cursor w k.merging.walked k.
 abbrev pub settled_turn : Control → Turn
 settled_turn k = a_turn (with_merging k (merging k.merging.cursor k.merging.writer k.merging.walked 0)) (Some Settle)
 
+abbrev pub put_turn : Control → Writer → Deed → Turn
+put_turn k w d = a_turn (with_merging k (merging k.merging.cursor w k.merging.walked (wrap (k.merging.waiting + 1)))) (Some d)
+
 abbrev pub data_turn : Control → Turn
-data_turn k =
-    a_turn (with_merging k (merging k.merging.cursor (put_data k.merging.writer) k.merging.walked (wrap (k.merging.waiting + 1))))
-    (Some (Data (wrap (new_data k + k.merging.writer.stream.put)) k.merging.writer.stream.fill))
+data_turn k = put_turn k (put_data k.merging.writer) (Data (wrap (new_data k + k.merging.writer.stream.put)) k.merging.writer.stream.fill)
 
 abbrev pub positions_turn : Control → Turn
-positions_turn k =
-    a_turn (with_merging k (merging k.merging.cursor (put_positions k.merging.writer) k.merging.walked (wrap (k.merging.waiting + 1))))
-    (Some (Positions (wrap (new_start k + k.merging.writer.positions.put)) k.merging.writer.positions.fill))
+positions_turn k = put_turn k (put_positions k.merging.writer) (Positions (wrap (new_start k + k.merging.writer.positions.put)) k.merging.writer.positions.fill)
 
 -- BYTES
 unfoldable pub took_bytes : ℕ → ℕ → ℕ → List ℕ → List ℕ

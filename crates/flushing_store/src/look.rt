@@ -13,7 +13,7 @@ use store::{Refusal, Told, read_key};
 use table::{Extent, Load, Lookup, Stage, place_payload};
 use value::Place;
 
-// What the pages that came for a lookup say.
+// What the pages that came for a lookup say. Its three ends have names, where `ControlFlow<Option<Place>, Lookup>` would say `Break(None)` for the last.
 #[derive(Clone, Copy)]
 pub enum Looked {
     // More has to be read.

@@ -1,6 +1,6 @@
 // A merge of the table with what is in memory, a round at a time: a full page is put, bytes in hand go to the page, or the next version is handed over.
 ghost use Rattle.std.specs.Prelude.{◌≡◌, length};
-ghost use Rattle.flushing_store.specs.Round.{settled_turn, data_turn, positions_turn, took_bytes, took_turn, closed_turn, head_turn, block_turn, next_turn, round as round_of};
+ghost use Rattle.flushing_store.specs.Round.{settled_turn, put_turn, data_turn, positions_turn, took_bytes, took_turn, closed_turn, head_turn, block_turn, next_turn, round as round_of};
 
 use crate::control::{Base, Control, DATA, ENTRIES, HAND, LIST, MEMORY, Merging, Phase, RING};
 use crate::give::end_block;
@@ -9,7 +9,7 @@ use crate::look::extent_of;
 use crate::octets::{page_octets, put_octets};
 use crate::target::{data_of, start_of};
 use crate::turn::{Deed, Turn};
-use table::{Due, Want, block_into};
+use table::{Due, Want, Writer, block_into};
 use value::{Place, part_of};
 
 // So many pages wait at the most before all that wait are settled.
@@ -29,21 +29,32 @@ fn settle(control: Control) -> Turn
     }
 }
 
+// A page is put: one more waits.
+fn put(control: Control, writer: Writer, deed: Deed) -> Turn
+    ensures { result ≡ put_turn control writer deed }
+{
+    let merging = Merging {
+        writer,
+        waiting: control.merging.waiting.wrapping_add(1),
+        ..control.merging
+    };
+    Turn {
+        control: Control { merging, ..control },
+        deed: Some(deed),
+    }
+}
+
 // The page of data is put.
 fn put_data(control: Control) -> Turn
     ensures { result ≡ data_turn control }
 {
     let writer = control.merging.writer;
-    let merging = Merging {
-        writer: writer.put_data(),
-        waiting: control.merging.waiting.wrapping_add(1),
-        ..control.merging
-    };
     let page = data_of(control).wrapping_add(writer.stream.put);
-    Turn {
-        control: Control { merging, ..control },
-        deed: Some(Deed::Data(page, writer.stream.fill)),
-    }
+    put(
+        control,
+        writer.put_data(),
+        Deed::Data(page, writer.stream.fill),
+    )
 }
 
 // The page of positions is put.
@@ -51,16 +62,12 @@ pub fn put_positions(control: Control) -> Turn
     ensures { result ≡ positions_turn control }
 {
     let writer = control.merging.writer;
-    let merging = Merging {
-        writer: writer.put_positions(),
-        waiting: control.merging.waiting.wrapping_add(1),
-        ..control.merging
-    };
     let page = start_of(control).wrapping_add(writer.positions.put);
-    Turn {
-        control: Control { merging, ..control },
-        deed: Some(Deed::Positions(page, writer.positions.fill)),
-    }
+    put(
+        control,
+        writer.put_positions(),
+        Deed::Positions(page, writer.positions.fill),
+    )
 }
 
 // Bytes in hand go to the page of data, at most 504.
