@@ -17,7 +17,8 @@ use Rattle.table.proofs.RowLaws.{length_octets}
 use Rattle.table.proofs.SizeLaws.{blocks_hold}
 use Rattle.table.proofs.WritingLaws.{ends}
 use Rattle.store.specs.House.{House}
-use Rattle.flushing_store.specs.Control.{base, merging, control, to_phase, index_of, arena_of, data_of, hand_of, entries_of}
+use Rattle.flushing_store.specs.Control.{base, merging, control, to_phase, data_of, hand_of, entries_of}
+use Rattle.store.specs.Regions.{index_of, arena_of}
 use Rattle.flushing_store.specs.Give.{ended_block}
 use Rattle.flushing_store.specs.Round.{with_writer, data_turn, positions_turn, last_turn, closed_turn}
 use Rattle.flushing_store.specs.declared.control.Phase.{Phase}

@@ -19,7 +19,8 @@ use Rattle.manifest.proofs.PageLaws.{page_is}
 use Rattle.manifest.proofs.PlaceLaws.{halves_apart}
 use Rattle.store.specs.House.{House}
 use Rattle.store.specs.Account.{most_commands}
-use Rattle.flushing_store.specs.Control.{wrap, base, control}
+use Rattle.flushing_store.specs.Control.{base, control}
+use Rattle.store.specs.Regions.{wrap}
 use Rattle.flushing_store.specs.Target.{new_start, new_data, next_manifest}
 use Rattle.flushing_store.specs.declared.control.Phase.{Phase}
 use Rattle.flushing_store.specs.declared.control.Control.{Control}

@@ -1,51 +1,32 @@
 -- One step of the running code is one step of the machine's definition.
-use Rattle.std.proofs.Common.{◌≡◌, ℕ, ◌≤◌, true, false, List, [], length, sym, refl, subst, arith, eq-eqb}
-use Rattle.std.proofs.lemmas.Bool.Decides.{nat_tests}
+use Rattle.std.proofs.Common.{◌≡◌, ℕ, List, length, sym, refl, subst, eq-eqb, Bor, Some, None}
 use Rattle.std.proofs.lemmas.List.{length-replicate}
-use Rattle.value.specs.Versions.{version}
 use Rattle.table.specs.Row.{octets}
-use Rattle.flushing_store.specs.Acts.{stepped, Does, Quiet}
-use Rattle.store.specs.Promise.{on, said, page, next, refused, Step}
-use Rattle.store.specs.House.{write, erase, get, flush}
+use Rattle.store.specs.Promise.{refused, Step}
 use Rattle.flushing_store.specs.Control.{control_of}
-use Rattle.flushing_store.specs.Power.{powered}
-use Rattle.flushing_store.specs.Write.{wrote}
-use Rattle.flushing_store.specs.Get.{got}
-use Rattle.flushing_store.specs.Flush.{flushed_step}
 use Rattle.flushing_store.specs.Own.{went_on, paged_by, paged, heard, turned, blank_memory, own}
-use Rattle.flushing_store.specs.Entry.{StepSays, step_fits}
+use Rattle.store.specs.Event.{Meant, meaning}
+use Rattle.store.specs.declared.event.Event.{Event}
+use Rattle.store.specs.declared.event.Event.TheVariants.{On, Write, Erase, Get, Range, First, Last, Count, Flush, Compact, Page, Next}
 use Rattle.store.specs.declared.told.Told.{Told}
 use Rattle.store.specs.declared.told.Told.TheVariants.{No}
 use Rattle.flushing_store.specs.declared.control.Phase.{Phase}
 use Rattle.flushing_store.specs.declared.control.Phase.TheVariants.{Idle, Shown, FirstList, AfterWhole, AfterTorn, Getting, Writing, Merging, Closed, Placed, Settled, Listed, Committed}
 use Rattle.flushing_store.specs.declared.control.Control.{Control}
-use Rattle.store.specs.Acts.{ActTold}
-use Rattle.store.specs.Entry.{event_of}
+use Rattle.store.specs.Acts.{ActTold, stepped, Does}
+use Rattle.std.specs.Array.{IsWholeChunk}
+use Rattle.store.specs.Event.{event_of}
 
 pub start_length : length own.start ≡ 152520
 unfolding own blank_memory
 start_length = length-replicate {A = ℕ} 152520 0
 
-pub record Fits (m : List ℕ) (kind : ℕ) (out : List ℕ) : Type 0 where
-  pub memory : length m ≡ 152520
-  pub kinds : kind ≤ 12
-  pub room : 1280 ≤ length out
-
-pub fits_all : (m : List ℕ) (kind : ℕ) (as₁ bs out : List ℕ) → true ≡ step_fits m kind as₁ bs out → Fits m kind out
-unfolding step_fits
-fits_all m kind as₁ bs out e = record { memory = grind (arith, nat_tests, start_length); kinds = grind (arith, nat_tests); room = grind (arith, nat_tests) }
-
-pub misfit_says : (m : List ℕ) (kind n : ℕ) (as₁ bs out : List ℕ) → false ≡ step_fits m kind as₁ bs out → StepSays m kind n as₁ bs out (step_fits m kind as₁ bs out) (No 0) m out
-unfolding StepSays
-misfit_says m kind n as₁ bs out e = rw (sym e) (refl, refl, refl)
-
-pub turn_says :
-    (m : List ℕ) (kind n : ℕ) (as₁ bs out m₁ out₁ : List ℕ) (r : Told) (k : Control) → true ≡ step_fits m kind as₁ bs out → k ≡ control_of m →
-    Does (turned k m (event_of kind n as₁ bs)) r out m₁ out₁ → StepSays m kind n as₁ bs out (step_fits m kind as₁ bs out) r m₁ out₁
-unfolding StepSays own
-turn_says m kind n as₁ bs out m₁ out₁ r k e f g =
-    let l = (fits_all m kind as₁ bs out e).memory in
-    rw (sym e, eq-eqb (length m) 152520 l, sym f) (g.0, g.1)
+-- w is memory as an array
+pub own_does :
+    (m w : List ℕ) (kind n : ℕ) (as₁ bs : List ℕ) (r : Told) (o m₁ out₁ : List ℕ) (k : Control) (e : Event) → IsWholeChunk m w 152520 → k ≡ control_of w → Meant e (event_of kind n as₁ bs) →
+    Does (turned k w (meaning e)) r o m₁ out₁ → Does (own.step m (event_of kind n as₁ bs)) r o m₁ out₁
+unfolding own
+own_does m w kind n as₁ bs r o m₁ out₁ k e l f q g = rw (eq-eqb (length m) 152520 l.long, sym l.same, sym f, sym q) g
 
 -- by the phase
 module _ (k : Control) (m out m₁ out₁ : List ℕ) (r : Told) where
@@ -99,69 +80,29 @@ pub page_nowhere : (k : Control) (m bs out : List ℕ) (p : Phase) → (p ≡ Fi
 unfolding ActTold
 page_nowhere k m bs out p a b c d e f = subst (λ (s : Step). Does s (No 2) out m out) (sym (paged_nowhere k m (octets 512 bs) p a b c d e f)) (refl, (refl, refl))
 
--- the turns, by the number of the event
-module _ (k : Control) (m : List ℕ) (kind n : ℕ) (one two out : List ℕ) where
-  event_0 : kind ≡ 0 → event_of kind n one two ≡ on n
-  unfolding event_of
-  event_0 e = rw e refl
+-- an event that is no turn of it
+other_step :
+    (k : Control) (m : List ℕ) (e : Event) → ((p : ℕ) → e ≡ On p → ⊥) → ((x : Bor (List ℕ)) (s : ℕ) (v : Bor (List ℕ)) → e ≡ Write x s v → ⊥) →
+    ((x : Bor (List ℕ)) (s : ℕ) → e ≡ Erase x s → ⊥) → ((x : Bor (List ℕ)) (s : ℕ) → e ≡ Get x s → ⊥) → (e ≡ Flush → ⊥) → ((x : Bor (List ℕ)) → e ≡ Page x → ⊥) → (e ≡ Next → ⊥) →
+    turned k m (meaning e) ≡ stepped m (refused 2)
+unfolding turned heard
+other_step k m (On p) a b c d f g h = absurd (a p refl)
+other_step k m (Write x s v) a b c d f g h = absurd (b x s v refl)
+other_step k m (Erase x s) a b c d f g h = absurd (c x s refl)
+other_step k m (Get x s) a b c d f g h = absurd (d x s refl)
+other_step k m (Range x None s) a b c d f g h = refl
+other_step k m (Range x (Some y) s) a b c d f g h = refl
+other_step k m (First s) a b c d f g h = refl
+other_step k m (Last s) a b c d f g h = refl
+other_step k m (Count s) a b c d f g h = refl
+other_step k m Flush a b c d f g h = absurd (f refl)
+other_step k m (Compact t) a b c d f g h = refl
+other_step k m (Page p) a b c d f g h = absurd (g p refl)
+other_step k m Next a b c d f g h = absurd (h refl)
 
-  event_1 : kind ≡ 1 → event_of kind n one two ≡ said (write one n two)
-  unfolding event_of
-  event_1 e = rw e refl
-
-  event_2 : kind ≡ 2 → event_of kind n one two ≡ said (erase one n)
-  unfolding event_of
-  event_2 e = rw e refl
-
-  event_3 : kind ≡ 3 → event_of kind n one two ≡ said (get one n)
-  unfolding event_of
-  event_3 e = rw e refl
-
-  event_9 : kind ≡ 9 → event_of kind n one two ≡ said flush
-  unfolding event_of
-  event_9 e = rw e refl
-
-  event_11 : kind ≡ 11 → event_of kind n one two ≡ page two
-  unfolding event_of
-  event_11 e = rw e refl
-
-  event_12 : kind ≡ 12 → event_of kind n one two ≡ next
-  unfolding event_of
-  event_12 e = rw e refl
-
-  pub power_turn : (r : Told) (m₁ : List ℕ) → kind ≡ 0 → Quiet (powered k m n) r m₁ → Does (turned k m (event_of kind n one two)) r out m₁ out
-  unfolding turned
-  power_turn r m₁ e g = rw (event_0 e) (g.0, g.1 out)
-
-  pub write_turn : (r : Told) (m₁ : List ℕ) → kind ≡ 1 → Quiet (wrote k m (version one n false two)) r m₁ → Does (turned k m (event_of kind n one two)) r out m₁ out
-  unfolding turned heard
-  write_turn r m₁ e g = rw (event_1 e) (g.0, g.1 out)
-
-  pub erase_turn : (r : Told) (m₁ : List ℕ) → kind ≡ 2 → Quiet (wrote k m (version one n true [])) r m₁ → Does (turned k m (event_of kind n one two)) r out m₁ out
-  unfolding turned heard
-  erase_turn r m₁ e g = rw (event_2 e) (g.0, g.1 out)
-
-  pub get_turn : (r : Told) (m₁ out₁ : List ℕ) → kind ≡ 3 → Does (got k m one n) r out m₁ out₁ → Does (turned k m (event_of kind n one two)) r out m₁ out₁
-  unfolding turned heard
-  get_turn r m₁ out₁ e g = rw (event_3 e) g
-
-  pub flush_turn : (r : Told) (m₁ out₁ : List ℕ) → kind ≡ 9 → Does (flushed_step k m) r out m₁ out₁ → Does (turned k m (event_of kind n one two)) r out m₁ out₁
-  unfolding turned heard
-  flush_turn r m₁ out₁ e g = rw (event_9 e) g
-
-  pub page_turn : (r : Told) (m₁ out₁ : List ℕ) → kind ≡ 11 → Does (paged k m two k.base.phase) r out m₁ out₁ → Does (turned k m (event_of kind n one two)) r out m₁ out₁
-  unfolding turned
-  page_turn r m₁ out₁ e g = rw (event_11 e) g
-
-  pub next_turn : (r : Told) (m₁ out₁ : List ℕ) → kind ≡ 12 → Does (went_on k m k.base.phase) r out m₁ out₁ → Does (turned k m (event_of kind n one two)) r out m₁ out₁
-  unfolding turned
-  next_turn r m₁ out₁ e g = rw (event_12 e) g
-
-  other_act : kind ≤ 12 → (kind ≡ 0 → ⊥) → (kind ≡ 1 → ⊥) → (kind ≡ 2 → ⊥) → (kind ≡ 3 → ⊥) → (kind ≡ 9 → ⊥) → (kind ≡ 11 → ⊥) → (kind ≡ 12 → ⊥) →
-      ((turned k m (event_of kind n one two)).memory ≡ m) × ((turned k m (event_of kind n one two)).act ≡ refused 2)
-  unfolding event_of turned heard
-  other_act h a b c d e f g = (grind (arith, nat_tests), grind (arith, nat_tests))
-
-  pub other_turn : kind ≤ 12 → (kind ≡ 0 → ⊥) → (kind ≡ 1 → ⊥) → (kind ≡ 2 → ⊥) → (kind ≡ 3 → ⊥) → (kind ≡ 9 → ⊥) → (kind ≡ 11 → ⊥) → (kind ≡ 12 → ⊥) → Does (turned k m (event_of kind n one two)) (No 2) out m out
-  unfolding ActTold
-  other_turn h a b c d e f g = let (p, q) = other_act h a b c d e f g in rw (p, q) (refl, (refl, refl))
+pub other_turn :
+    (k : Control) (m out : List ℕ) (e : Event) → ((p : ℕ) → e ≡ On p → ⊥) → ((x : Bor (List ℕ)) (s : ℕ) (v : Bor (List ℕ)) → e ≡ Write x s v → ⊥) →
+    ((x : Bor (List ℕ)) (s : ℕ) → e ≡ Erase x s → ⊥) → ((x : Bor (List ℕ)) (s : ℕ) → e ≡ Get x s → ⊥) → (e ≡ Flush → ⊥) → ((x : Bor (List ℕ)) → e ≡ Page x → ⊥) → (e ≡ Next → ⊥) →
+    Does (turned k m (meaning e)) (No 2) out m out
+unfolding ActTold
+other_turn k m out e a b c d f g h = rw (other_step k m e a b c d f g h) (refl, (refl, refl))

@@ -22,7 +22,8 @@ use Rattle.manifest.specs.Commit.{list_write}
 use Rattle.manifest.specs.declared.fields.Manifest.{Manifest}
 use Rattle.store.specs.House.{House, flush}
 use Rattle.store.specs.Promise.{Event, said, page, next, World}
-use Rattle.flushing_store.specs.Control.{memory_words, base, control_of, index_of, arena_of, stage_region, ring_of, list_of, hand_of, data_of, entries_of}
+use Rattle.flushing_store.specs.Control.{memory_words, base, control_of, stage_region, ring_of, list_of, hand_of, data_of, entries_of}
+use Rattle.store.specs.Regions.{index_of, arena_of}
 use Rattle.flushing_store.specs.Look.{extent_of}
 use Rattle.flushing_store.specs.Target.{next_manifest}
 use Rattle.flushing_store.specs.declared.control.Phase.{Phase}

@@ -11,7 +11,8 @@ use Rattle.manifest.proofs.PageLaws.{page_is}
 use Rattle.store.specs.House.{House, house, flush, core}
 use Rattle.store.specs.Promise.{settle, world}
 use Rattle.store.specs.Account.{Next, Ends, most_commands}
-use Rattle.flushing_store.specs.Control.{base, control_of, put_control, to_phase, index_of, arena_of}
+use Rattle.flushing_store.specs.Control.{base, control_of, put_control, to_phase}
+use Rattle.store.specs.Regions.{index_of, arena_of}
 use Rattle.flushing_store.specs.Target.{next_manifest}
 use Rattle.flushing_store.specs.Flush.{listed_step, emptied}
 use Rattle.flushing_store.specs.declared.control.Phase.{Phase}

@@ -1,5 +1,5 @@
 -- Flushing: rounds one after the other, and what is done at their end.
-use Rattle.std.proofs.Common.{◌≡◌, ℕ, zero, suc, ◌+◌, ◌-◌, ◌<◌, ◌≤◌, min, true, false, List, ◌++◌, length, drop, sym, refl, ap, ◌∙◌, subst, arith, length-append, eq-eqb, ne_eqb}
+use Rattle.std.proofs.Common.{◌≡◌, ℕ, zero, suc, ◌+◌, ◌-◌, ◌<◌, ◌≤◌, min, true, false, List, ◌++◌, length, drop, sym, refl, ap, ◌∙◌, subst, arith, length-append, eq-eqb, ne_eqb, Option, Some, None}
 use Rattle.value.specs.Numbers.{bytes_of}
 use Rattle.value.proofs.NumberLaws.{length_bytes_of}
 use Rattle.table.specs.Row.{octets}
@@ -12,28 +12,29 @@ use Rattle.table.specs.declared.cursor.Want.{Want}
 use Rattle.table.specs.declared.cursor.Want.TheVariants.{Positions as WantsPositions, Data as WantsData, Head, End}
 use Rattle.manifest.specs.Manifest.{manifest_page}
 use Rattle.manifest.specs.declared.fields.Manifest.{Manifest}
-use Rattle.flushing_store.specs.Acts.{Does}
-use Rattle.flushing_store.specs.Control.{put_control, within, list_of, data_of, entries_of}
+use Rattle.flushing_store.specs.Control.{put_control, list_of, data_of, entries_of}
+use Rattle.store.specs.Regions.{within}
 use Rattle.flushing_store.specs.Look.{extent_of}
 use Rattle.flushing_store.specs.Round.{Went, went, with_cursor, round}
-use Rattle.flushing_store.specs.Flush.{is_more, spun_from, spun, performed, merged_on, begun_flush, flushed_step, page_merged}
+use Rattle.flushing_store.specs.Flush.{spun_from, spun, performed, merged_on, begun_flush, flushed_step, page_merged}
 use Rattle.flushing_store.specs.declared.control.Control.{Control}
 use Rattle.store.specs.declared.told.Told.{Told}
 use Rattle.store.specs.declared.told.Told.TheVariants.{Read, Put, Settle as Settles, Done, No}
 use Rattle.flushing_store.specs.declared.turn.Deed.{Deed}
-use Rattle.flushing_store.specs.declared.turn.Deed.TheVariants.{More, Fetch, Data, Positions, Settle}
+use Rattle.flushing_store.specs.declared.turn.Deed.TheVariants.{Fetch, Data, Positions, Settle}
 use Rattle.flushing_store.specs.declared.turn.Turn.{Turn}
-use Rattle.store.specs.Acts.{ActTold}
+use Rattle.store.specs.Acts.{ActTold, Does}
+use Rattle.std.specs.Prelude.{is_some}
 
 -- THE ROUNDS
-pub spun_more : (n i : ℕ) (t u : Turn) (m m₁ : List ℕ) → i < n → true ≡ is_more t.deed → u ≡ (round t.control m).turn → m₁ ≡ (round t.control m).memory →
+pub spun_more : (n i : ℕ) (t u : Turn) (m m₁ : List ℕ) → i < n → false ≡ is_some t.deed → u ≡ (round t.control m).turn → m₁ ≡ (round t.control m).memory →
     spun_from (n - (i + 1)) (went u.control u.deed m₁) ≡ spun_from (n - i) (went t.control t.deed m)
 unfolding spun_from
 spun_more n i t u m m₁ h e f g =
     let d : n - i ≡ suc (n - (i + 1)) = omega arith in
     rw (d, ← e) (λ x. spun_from (n - (i + 1)) record { turn = f x; memory = g x })
 
-pub spun_done : (n i : ℕ) (t : Turn) (m : List ℕ) → i < n → false ≡ is_more t.deed → spun_from (n - i) (went t.control t.deed m) ≡ went t.control t.deed m
+pub spun_done : (n i : ℕ) (t : Turn) (m : List ℕ) → i < n → true ≡ is_some t.deed → spun_from (n - i) (went t.control t.deed m) ≡ went t.control t.deed m
 unfolding spun_from
 spun_done n i t m h e = let d : n - i ≡ suc (n - (i + 1)) = omega arith in rw (d, ← e) refl
 
@@ -41,7 +42,7 @@ pub spun_end : (n i : ℕ) (t : Turn) (m : List ℕ) → n ≤ i → spun_from (
 unfolding spun_from
 spun_end n i t m h = let d : n - i ≡ zero = omega arith in rw d refl
 
-pub spun_is : (n : ℕ) (k : Control) (m : List ℕ) (t : Turn) (m₁ : List ℕ) → went t.control t.deed m₁ ≡ spun_from n (went k More m) → (t ≡ (spun n k m).turn) × (m₁ ≡ (spun n k m).memory)
+pub spun_is : (n : ℕ) (k : Control) (m : List ℕ) (t : Turn) (m₁ : List ℕ) → went t.control t.deed m₁ ≡ spun_from n (went k None m) → (t ≡ (spun n k m).turn) × (m₁ ≡ (spun n k m).memory)
 unfolding spun
 spun_is n k m t m₁ e = (ap (λ (w : Went). w.turn) e, ap (λ (w : Went). w.memory) e)
 
@@ -54,30 +55,30 @@ pub length_page : (f : Manifest) → length (manifest_page f) ≡ 512
 unfolding manifest_page
 length_page f = length_sealed _
 
-module _ (k : Control) (d : Deed) (m m₁ out out₁ : List ℕ) (r : Told) (e : m₁ ≡ put_control m k) where
-  pub perform_more : d ≡ More → r ≡ No 2 → out₁ ≡ out → Does (performed k d m) r out m₁ out₁
+module _ (k : Control) (d : Option Deed) (m m₁ out out₁ : List ℕ) (r : Told) (e : m₁ ≡ put_control m k) where
+  pub perform_more : d ≡ None → r ≡ No 2 → out₁ ≡ out → Does (performed k d m) r out m₁ out₁
   unfolding performed ActTold
   perform_more f a b = rw f (e, (a, b))
 
-  pub perform_fetch : (q : ℕ) → d ≡ Fetch q → r ≡ Read q → out₁ ≡ out → Does (performed k d m) r out m₁ out₁
+  pub perform_fetch : (q : ℕ) → (x : Deed) → d ≡ Some x → x ≡ Fetch q → r ≡ Read q → out₁ ≡ out → Does (performed k d m) r out m₁ out₁
   unfolding performed ActTold
-  perform_fetch q f a b = rw f (e, (a, b))
+  perform_fetch q x f g a b = rw (f, g) (e, (a, b))
 
-  pub perform_settle : d ≡ Settle → r ≡ Settles → out₁ ≡ out → Does (performed k d m) r out m₁ out₁
+  pub perform_settle : (x : Deed) → d ≡ Some x → x ≡ Settle → r ≡ Settles → out₁ ≡ out → Does (performed k d m) r out m₁ out₁
   unfolding performed ActTold
-  perform_settle f a b = rw f (e, (a, b))
+  perform_settle x f g a b = rw (f, g) (e, (a, b))
 
-  pub perform_data : (q n : ℕ) → d ≡ Data q n → r ≡ Put q → out₁ ≡ sealed (octets (min n 504) (data_of m)) ++ drop 512 out → Does (performed k d m) r out m₁ out₁
+  pub perform_data : (q n : ℕ) → (x : Deed) → d ≡ Some x → x ≡ Data q n → r ≡ Put q → out₁ ≡ sealed (octets (min n 504) (data_of m)) ++ drop 512 out → Does (performed k d m) r out m₁ out₁
   unfolding performed ActTold
-  perform_data q n f a b =
+  perform_data q n x f g a b =
       let p = sealed (octets (min n 504) (data_of m)) in
-      rw f (e, (a, b ∙ ap (λ x. p ++ drop x out) (sym (length_sealed (octets (min n 504) (data_of m))))))
+      rw (f, g) (e, (a, b ∙ ap (λ x. p ++ drop x out) (sym (length_sealed (octets (min n 504) (data_of m))))))
 
-  pub perform_positions : (q n : ℕ) → d ≡ Positions q n → r ≡ Put q → out₁ ≡ sealed (octets (min n 504) (entries_of m)) ++ drop 512 out → Does (performed k d m) r out m₁ out₁
+  pub perform_positions : (q n : ℕ) → (x : Deed) → d ≡ Some x → x ≡ Positions q n → r ≡ Put q → out₁ ≡ sealed (octets (min n 504) (entries_of m)) ++ drop 512 out → Does (performed k d m) r out m₁ out₁
   unfolding performed ActTold
-  perform_positions q n f a b =
+  perform_positions q n x f g a b =
       let p = sealed (octets (min n 504) (entries_of m)) in
-      rw f (e, (a, b ∙ ap (λ x. p ++ drop x out) (sym (length_sealed (octets (min n 504) (entries_of m))))))
+      rw (f, g) (e, (a, b ∙ ap (λ x. p ++ drop x out) (sym (length_sealed (octets (min n 504) (entries_of m))))))
 
 pub merges : (k : Control) (m : List ℕ) (t : Turn) (m₁ out m₂ out₁ : List ℕ) (r : Told) → t ≡ (spun 1024 k m).turn → m₁ ≡ (spun 1024 k m).memory →
     Does (performed t.control t.deed m₁) r out m₂ out₁ → Does (merged_on k m) r out m₂ out₁

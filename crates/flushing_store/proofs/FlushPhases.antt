@@ -23,7 +23,8 @@ use Rattle.manifest.specs.Places.{other, InHalf, in_half}
 use Rattle.store.specs.House.{House, flush, core}
 use Rattle.store.specs.Promise.{Event, settle, World, queued}
 use Rattle.store.specs.Account.{Next, Ends, most_commands}
-use Rattle.flushing_store.specs.Control.{memory_words, within, base, merging, control_of, put_control, to_phase, index_of, arena_of, stage_region, ring_of, list_of, hand_of, data_of, entries_of}
+use Rattle.flushing_store.specs.Control.{memory_words, base, merging, control_of, put_control, to_phase, stage_region, ring_of, list_of, hand_of, data_of, entries_of}
+use Rattle.store.specs.Regions.{within, index_of, arena_of}
 use Rattle.flushing_store.specs.Look.{extent_of}
 use Rattle.flushing_store.specs.Target.{new_start}
 use Rattle.flushing_store.specs.Round.{with_cursor, positions_turn}
@@ -31,7 +32,8 @@ use Rattle.flushing_store.specs.Flush.{performed, merged_on, begun_flush, page_m
 use Rattle.flushing_store.specs.declared.control.Phase.{Phase}
 use Rattle.flushing_store.specs.declared.control.Phase.TheVariants.{Idle, Merging as MergingPhase, Closed, Placed, Settled}
 use Rattle.flushing_store.specs.declared.control.Control.{Control}
-use Rattle.flushing_store.proofs.RegionLaws.{region_same, region_above, region_below, length_region, SmallCursor, merging_put}
+use Rattle.flushing_store.proofs.RegionLaws.{SmallCursor, merging_put}
+use Rattle.store.proofs.RegionLaws.{region_same, region_above, region_below, length_region}
 use Rattle.flushing_store.proofs.StoredLaws.{AllPages}
 use Rattle.flushing_store.proofs.OwnAccount.{Rest}
 use Rattle.flushing_store.proofs.WholeAccount.{account}

@@ -15,7 +15,7 @@ use Rattle.manifest.proofs.PlaceLaws.{halves_apart}
 use Rattle.store.specs.House.{House, flush, refusal, after, shows, core}
 use Rattle.store.specs.Promise.{Event, said, page, next, settle, done, Step, World, world}
 use Rattle.store.specs.Account.{Next, NextStep, leavings, TellsRight, nothing, StopLeaves, undone, done_already, Ends, finished, most_commands, Serves}
-use Rattle.flushing_store.specs.Acts.{stepped}
+use Rattle.store.specs.Acts.{stepped}
 use Rattle.flushing_store.specs.Control.{control_of, put_control, to_phase, ring_of, list_of}
 use Rattle.flushing_store.specs.Look.{extent_of}
 use Rattle.flushing_store.specs.Target.{next_manifest}

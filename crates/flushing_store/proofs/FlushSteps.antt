@@ -3,7 +3,6 @@ use Rattle.std.proofs.Common.{◌≡◌, ℕ, suc, ◌+◌, ◌-◌, ◌*◌, �
 use Rattle.value.specs.Versions.{pick}
 use Rattle.value.specs.Numbers.{all_bytes}
 use Rattle.value.specs.Sorted.{sort, merge}
-use Rattle.value.proofs.TestLaws.{clash}
 use Rattle.memtable.specs.Holds.{Holds}
 use Rattle.memtable.proofs.AnswerLaws.{sizes_suffice}
 use Rattle.table.specs.Device.{Device, Page, page_at, read_page, flushed}
@@ -19,9 +18,10 @@ use Rattle.manifest.specs.Places.{other, InHalf}
 use Rattle.store.specs.House.{House, flush, core}
 use Rattle.store.specs.Promise.{Event, page, next, world, queued}
 use Rattle.store.specs.Account.{Next, Ends}
-use Rattle.flushing_store.specs.Control.{memory_words, control_of, put_control, index_of, arena_of, stage_region, ring_of, list_of, hand_of, data_of, entries_of}
+use Rattle.flushing_store.specs.Control.{memory_words, control_of, put_control, stage_region, ring_of, list_of, hand_of, data_of, entries_of}
+use Rattle.store.specs.Regions.{index_of, arena_of}
 use Rattle.flushing_store.specs.Look.{extent_of}
-use Rattle.flushing_store.specs.Flush.{is_more, performed, done_by, spun, merged_on}
+use Rattle.flushing_store.specs.Flush.{performed, done_by, spun, merged_on}
 use Rattle.flushing_store.specs.declared.control.Phase.{Phase}
 use Rattle.flushing_store.specs.declared.control.Phase.TheVariants.{Merging as MergingPhase, Closed, Placed}
 use Rattle.flushing_store.specs.declared.control.Merging.{Merging}
@@ -35,6 +35,7 @@ use Rattle.flushing_store.proofs.WorkLaws.{working_settled, working_put, working
 use Rattle.flushing_store.proofs.RoundAccount.{all_fit, At, SameCounts, NextData, NextPositions, Over, Rounded, more, fetches, settles, puts_data, puts_positions, closes_data, closes_positions}
 use Rattle.flushing_store.proofs.PageRounds.{staged_same}
 use Rattle.flushing_store.proofs.SpinLaws.{Spun, comes_to, spun_comes}
+use Rattle.std.specs.Prelude.{is_some}
 
 module _ (n pages : ℕ) (h : House) (j : Job n pages h) where
   -- CONTROL IS SAVED, and is as it was
@@ -145,9 +146,9 @@ module _ (n pages : ℕ) (h : House) (j : Job n pages h) where
     over_saved : (k₁ : Control) (m₁ : List ℕ) → length m₁ ≡ memory_words → Over n pages h j k₁.merging → (control_of (put_control m₁ k₁)).merging ≡ k₁.merging
     over_saved k₁ m₁ l v = merging_put m₁ k₁ l v.small_cursor v.small_writer v.small_walked v.small_waiting
 
-    pub performs : (t : Turn) (m₁ : List ℕ) → Rounded n pages h j k m t m₁ → is_more t.deed ≡ false → Then t m₁
+    pub performs : (t : Turn) (m₁ : List ℕ) → Rounded n pages h j k m t m₁ → is_some t.deed ≡ true → Then t m₁
     unfolding performed
-    performs t m₁ (more k₁ m₂ a lt s) e = clash true refl e
+    performs t m₁ (more k₁ m₂ a lt s) e = absurd (cc)
     performs t m₁ (fetches q (inl w)) e =
         let (at, lt, on) = cursor_right.positions (extent_of j.list) j.before h.safe k.merging.cursor (ring_of m) (list_of m) o.merges.table_rest q j.stored.there o.merges.walking w in
         (acts_left n pages h j k.merging, enough, fetch k m d _ o wo wr (positions_came q w (reads q (subst (InHalf pages j.list.layout.half) (sym at) (j.stored.in_place.entries k.merging.cursor.listed lt)))))

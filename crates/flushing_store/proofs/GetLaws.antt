@@ -8,19 +8,19 @@ use Rattle.table.specs.Row.{octets}
 use Rattle.table.specs.Lookup.{begun, with_page, loaded}
 use Rattle.table.specs.declared.lookup.Lookup.{Lookup}
 use Rattle.store.specs.House.{a_key}
-use Rattle.flushing_store.specs.Acts.{Does, Quiet}
-use Rattle.flushing_store.specs.Control.{put_control, to_phase, arena_of, stage_region, ring_of}
+use Rattle.flushing_store.specs.Control.{put_control, to_phase, stage_region, ring_of}
+use Rattle.store.specs.Regions.{arena_of, sought}
 use Rattle.flushing_store.specs.Stage.{staged}
 use Rattle.flushing_store.specs.Look.{extent_of, looked, page_in, asked}
-use Rattle.flushing_store.specs.Shown.{row_at, row_of}
-use Rattle.flushing_store.specs.Get.{sought, got_below, told_of, got, shown_by, got_by, got_on}
+use Rattle.store.specs.Shown.{row_at, row_of}
+use Rattle.flushing_store.specs.Get.{got_below, told_of, got, shown_by, got_by, got_on}
 use Rattle.store.specs.declared.told.Told.{Told}
 use Rattle.store.specs.declared.told.Told.TheVariants.{Tells, Done}
 use Rattle.flushing_store.specs.declared.look.Looked.{Looked}
 use Rattle.flushing_store.specs.declared.look.Looked.TheVariants.{On, Found, Missing}
 use Rattle.flushing_store.specs.declared.control.Phase.TheVariants.{Idle, Shown, Getting}
 use Rattle.flushing_store.specs.declared.control.Control.{Control}
-use Rattle.store.specs.Acts.{ActTold}
+use Rattle.store.specs.Acts.{ActTold, Does, Quiet}
 
 module _ (k : Control) (m key : List ℕ) (s : ℕ) where
   pub no_key : a_key key ≡ false → Quiet (got_below k m key s) Done m
@@ -36,15 +36,15 @@ module _ (k : Control) (m key : List ℕ) (s : ℕ) where
   unfolding got_below
   looks_below l m₀ r m₁ e f g q = rw (e, f, ← g) q
 
-  pub nothing_found : (out : List ℕ) (r : Told) (m₁ : List ℕ) → sought k m key s ≡ None → Quiet (got_below k m key s) r m₁ → Does (got k m key s) r out m₁ out
+  pub nothing_found : (out : List ℕ) (r : Told) (m₁ : List ℕ) → sought k.base.table m key s ≡ None → Quiet (got_below k m key s) r m₁ → Does (got k m key s) r out m₁ out
   unfolding got told_of
   nothing_found out r m₁ e q = rw e (q.0, q.1 out)
 
-  pub gone_found : (out : List ℕ) (p : ℕ) → sought k m key s ≡ Some p → gone_at (arena_of m) p ≡ true → Does (got k m key s) Done out m out
+  pub gone_found : (out : List ℕ) (p : ℕ) → sought k.base.table m key s ≡ Some p → gone_at (arena_of m) p ≡ true → Does (got k m key s) Done out m out
   unfolding got told_of ActTold
   gone_found out p e g = rw (e, g) (refl, (refl, refl))
 
-  pub value_found : (out m₁ out₁ : List ℕ) (p n : ℕ) → sought k m key s ≡ Some p → gone_at (arena_of m) p ≡ false → m₁ ≡ put_control m (to_phase k Shown) →
+  pub value_found : (out m₁ out₁ : List ℕ) (p n : ℕ) → sought k.base.table m key s ≡ Some p → gone_at (arena_of m) p ≡ false → m₁ ≡ put_control m (to_phase k Shown) →
       n ≡ length (row_at (arena_of m) p) → out₁ ≡ row_at (arena_of m) p ++ drop (length (row_at (arena_of m) p)) out → Does (got k m key s) (Tells n) out m₁ out₁
   unfolding got told_of ActTold
   value_found out m₁ out₁ p n e g q l r = rw (e, g) (q, (ap Tells l, r))

@@ -18,12 +18,13 @@ use Rattle.table.specs.declared.lookup.Lookup.{Lookup}
 use Rattle.store.specs.House.{House, get, a_key, refusal, after, shows, small_command, unsafe, core}
 use Rattle.store.specs.Promise.{Event, said, page, next, done, tells, Step, World, world}
 use Rattle.store.specs.Account.{Next, NextStep, leavings, TellsRight, nothing, part, StopLeaves, undone, Ends, finished, most_commands, Serves}
-use Rattle.flushing_store.specs.Acts.{stepped}
-use Rattle.flushing_store.specs.Control.{base, control_of, put_control, to_phase, arena_of, stage_region, ring_of}
+use Rattle.store.specs.Acts.{stepped}
+use Rattle.flushing_store.specs.Control.{base, control_of, put_control, to_phase, stage_region, ring_of}
+use Rattle.store.specs.Regions.{arena_of, sought}
 use Rattle.flushing_store.specs.Stage.{staged}
 use Rattle.flushing_store.specs.Look.{extent_of, looked, page_in, asked}
-use Rattle.flushing_store.specs.Shown.{row_at, row_of}
-use Rattle.flushing_store.specs.Get.{sought, begun_get, got_below, told_of, got, shown_by, got_by, got_on}
+use Rattle.store.specs.Shown.{row_at, row_of}
+use Rattle.flushing_store.specs.Get.{begun_get, got_below, told_of, got, shown_by, got_by, got_on}
 use Rattle.flushing_store.specs.Own.{heard, went_on, paged_by, turned, own}
 use Rattle.flushing_store.specs.declared.look.Looked.{Looked}
 use Rattle.flushing_store.specs.declared.control.Phase.{Phase}
@@ -147,7 +148,7 @@ module _ (key : List ℕ) (s : ℕ) where
 
     said_goes : G (got k m key s)
     unfolding got
-    said_goes = told (sought k m key s) (found_is pages h r.list Idle m key s r.held (get_bytes g))
+    said_goes = told (sought k.base.table m key s) (found_is pages h r.list Idle m key s r.held (get_bytes g))
 
   -- A PAGE CAME
   module _ (n pages : ℕ) (h : House) (w : World) (ev : Event) (ts : List (List ℕ)) (t : ts ≡ []) (μ : ℕ) (r : Rest n pages h Getting w) (sm : s < 18446744073709551616) (b : bytes key ≡ true)

@@ -1,12 +1,11 @@
 -- A version is handed over: its bound, and the bytes that it brings.
-use Rattle.std.proofs.Common.{◌≡◌, ℕ, ◌+◌, ◌<◌, ◌≤◌, Bool, true, false, List, [], ◌++◌, length, take, drop, Some, None, Option, sym, refl, ap, ◌∙◌, append_assoc, arith, length-append, ne_eqb}
+use Rattle.std.proofs.Common.{◌≡◌, ℕ, ◌+◌, ◌<◌, ◌≤◌, Bool, true, false, List, [], ◌++◌, length, take, drop, Some, None, sym, refl, ap, ◌∙◌, append_assoc, arith, length-append, length-drop, length-take, ne_eqb}
 use Rattle.std.proofs.lemmas.List.{take_at}
 use Rattle.value.specs.Versions.{pick, same, Version, version}
 use Rattle.value.specs.Numbers.{bytes_of}
 use Rattle.value.specs.Order.{OrderSays}
 use Rattle.value.specs.Encoding.{in_limits, encoding, encoded_length, has_room, written_length, written}
 use Rattle.std.specs.declared.cmp.Ordering.TheVariants.{Less, Equal, Greater}
-use Rattle.value.proofs.TestLaws.{clash}
 use Rattle.value.proofs.KeyLaws.{same_from, before_apart, before_apart'}
 use Rattle.value.proofs.NumberLaws.{length_bytes_of}
 use Rattle.value.proofs.OrderLaws.{before_said, same_said, behind_said}
@@ -17,7 +16,7 @@ use Rattle.table.specs.Writing.{begins, gave}
 use Rattle.table.specs.declared.writer.Writer.{Writer}
 use Rattle.flushing_store.specs.Control.{stage_region}
 use Rattle.flushing_store.specs.Stage.{staged}
-use Rattle.flushing_store.specs.Give.{bound_after, brought, brought_length, in_hand, given_writer, with_entry, given_memory}
+use Rattle.flushing_store.specs.Give.{bound_after, brought, in_hand, given_writer, with_entry, given_memory}
 
 module _ (n : ℕ) (m key last : List ℕ) (h : n ≡ 0 → ⊥) (e : last ≡ key_at (stage_region m) 0) where
   pub bound_same : (s : ℕ) → OrderSays last key Equal → s ≡ moment_at (stage_region m) 0 → s ≡ bound_after n m key
@@ -61,72 +60,47 @@ module _ (v : Version) (out : List ℕ) (h : 1294 ≤ length out) where
   pub short_written : (n : ℕ) → Some n ≡ written_length v out → n ≤ 1294
   short_written n e = let (a, b) = some_written n e in let l = limits_parts (length v.key) v.moment v.gone (length v.value) a in omega arith
 
-  -- outside the limits
-  pub bring_none : (b : Bool) (s : ℕ) (r : Option ℕ) (row : List ℕ) → None ≡ written_length v out → r ≡ None →
-      (r ≡ brought_length b v) × (in_limits v ≡ true → take (length (brought b s v)) row ≡ brought b s v)
-  bring_none b s r row e f = let l = none_written e in (f ∙ sym (ap (λ x. pick x (Some (length (brought b 0 v))) None) l), λ t. clash (in_limits v) t l)
-
   -- at the front
-  pub bring_plain : (b : Bool) (s : ℕ) (r : Option ℕ) (row : List ℕ) → b ≡ false → r ≡ written_length v out → row ≡ written v out →
-      (r ≡ brought_length b v) × (in_limits v ≡ true → take (length (brought b s v)) row ≡ brought b s v)
-  bring_plain b s r row e f g =
-      rw e (
-        f ∙ length_is ∙ ap (λ n. pick (in_limits v) (Some n) None) (sym (length_encoding v)),
-        λ t. ap (take (length (encoding v))) (g ∙ bytes_are t) ∙ take_at (encoding v) (drop (encoded_length v) out) (length (encoding v)) refl,
-      )
+  pub bring_plain : (s n : ℕ) (row : List ℕ) → Some n ≡ written_length v out → row ≡ written v out → (in_limits v ≡ true) × (take n row ≡ brought false s v)
+  bring_plain s n row f g =
+      let (t, k) = some_written n f in
+      (t, ap (take n) (g ∙ bytes_are t) ∙ take_at (encoding v) (drop (encoded_length v) out) n (omega (arith, length_encoding v)))
 
   -- behind a bound
-  pub bring_bound : (b : Bool) (s n : ℕ) (cp post row rest : List ℕ) → b ≡ true → Some n ≡ written_length v out → cp ≡ bytes_of 8 s → row ≡ written v out →
-      (Some (n + 8) ≡ brought_length b v) × (in_limits v ≡ true → take (length (brought b s v)) (take 8 (cp ++ post) ++ (row ++ rest)) ≡ brought b s v)
-  bring_bound b s n cp post row rest e f g w =
+  pub bring_bound : (s n : ℕ) (cp post row rest : List ℕ) → Some n ≡ written_length v out → cp ≡ bytes_of 8 s → row ≡ written v out →
+      (in_limits v ≡ true) × (take (8 + n) (take 8 (cp ++ post) ++ (row ++ rest)) ≡ brought true s v)
+  bring_bound s n cp post row rest f g w =
       let (t, k) = some_written n f in
       let B = bytes_of 8 s in
       let D = drop (encoded_length v) out in
-      let size : n + 8 ≡ length (bytes_of 8 0 ++ encoding v) = omega (arith, length-append (bytes_of 8 0) (encoding v), length_bytes_of 8 0, length_encoding v) in
+      let size : length (B ++ encoding v) ≡ 8 + n = omega (arith, length-append B (encoding v), length_bytes_of 8 s, length_encoding v) in
       let front : take 8 (cp ++ post) ≡ B = ap (λ x. take 8 (x ++ post)) g ∙ take_at B post 8 (length_bytes_of 8 s) in
-      let joined : B ++ ((encoding v ++ D) ++ rest) ≡ (B ++ encoding v) ++ (D ++ rest) = simp append_assoc in
-      rw e (
-        ap Some size ∙ sym (ap (λ x. pick x (Some (length (bytes_of 8 0 ++ encoding v))) None) t),
-        λ u. (λ i. take (length (B ++ encoding v)) (front i ++ ((w ∙ bytes_are u) i ++ rest))) ∙ ap (take (length (B ++ encoding v))) joined
-            ∙ take_at (B ++ encoding v) (D ++ rest) (length (B ++ encoding v)) refl,
+      let joined : B ++ ((encoding v ++ D) ++ rest) ≡ (B ++ encoding v) ++ (D ++ rest) = simp append_assoc in (
+        t,
+        (λ i. take (8 + n) (front i ++ ((w ∙ bytes_are t) i ++ rest))) ∙ ap (take (8 + n)) joined ∙ take_at (B ++ encoding v) (D ++ rest) (8 + n) size,
       )
 
+-- behind a bound there is room for it in a row of 1,302
+pub room_behind : (cp row : List ℕ) (s : ℕ) → cp ≡ bytes_of 8 s → length row ≡ 1302 → 1294 ≤ length (take 1294 (drop 8 (cp ++ drop 8 row)))
+room_behind cp row s e l =
+    let out = drop 8 (cp ++ drop 8 row) in
+    omega (arith, ap length e, length_bytes_of 8 s, length-take 1294 out, length-drop 8 (cp ++ drop 8 row), length-append cp (drop 8 row), length-drop 8 row)
+
 -- HANDED OVER, or not
-brought_none : (b : Bool) (v : Version) → None ≡ brought_length b v → in_limits v ≡ false
-brought_none b v e = go (in_limits v) e
-  where
-    go : (x : Bool) → None ≡ pick x (Some (length (brought b 0 v))) None → x ≡ false
-    go true f = let z : ◌≡◌ {A = ℕ} 0 1 = cc in absurd (omega arith)
-    go false f = refl
-
-brought_some : (b : Bool) (v : Version) (n : ℕ) → Some n ≡ brought_length b v → (in_limits v ≡ true) × (n ≡ length (brought b 0 v))
-brought_some b v n e = go (in_limits v) e
-  where
-    go : (x : Bool) → Some n ≡ pick x (Some (length (brought b 0 v))) None → (x ≡ true) × (n ≡ length (brought b 0 v))
-    go true f = (refl, cc)
-    go false f = let z : ◌≡◌ {A = ℕ} 0 1 = cc in absurd (omega arith)
-
--- the bound does not change the length
-same_long : (b : Bool) (s : ℕ) (v : Version) → length (brought b 0 v) ≡ length (brought b s v)
-same_long true s v = omega (arith, length-append (bytes_of 8 0) (encoding v), length-append (bytes_of 8 s) (encoding v), length_bytes_of 8 0, length_bytes_of 8 s)
-same_long false s v = refl
-
-pub nothing_given : (b : Bool) (w : Writer) (v : Version) (m : List ℕ) → None ≡ brought_length b v → (None ≡ given_writer w v) × (m ≡ given_memory w v m)
+pub nothing_given : (w : Writer) (v : Version) (m : List ℕ) → in_limits v ≡ false → (None ≡ given_writer w v) × (m ≡ given_memory w v m)
 unfolding given_memory
-nothing_given b w v m e = rw (brought_none b v e) (refl, refl)
+nothing_given w v m e = rw e (refl, refl)
 
 pub given :
-    (w w₁ : Writer) (v : Version) (m : List ℕ) (b : Bool) (s n size : ℕ) (row bs m₁ m₂ m₃ : List ℕ) → Some n ≡ brought_length b v →
+    (w w₁ : Writer) (v : Version) (m : List ℕ) (b : Bool) (s size : ℕ) (bs m₁ m₂ m₃ : List ℕ) → in_limits v ≡ true →
     (length v.key < 256 → length v.value ≤ 1024 → size ≡ encoded_length v) → b ≡ begins w size → s ≡ bound_after w.block.count m v.key →
-    (in_limits v ≡ true → take (length (brought b s v)) row ≡ brought b s v) → bs ≡ take n row → m₁ ≡ in_hand bs m → m₂ ≡ with_entry b w m₁ →
+    bs ≡ brought b s v → m₁ ≡ in_hand bs m → m₂ ≡ with_entry b w m₁ →
     m₃ ≡ staged (version v.key v.moment v.gone []) m₂ → w₁ ≡ gave w size → (Some w₁ ≡ given_writer w v) × (m₃ ≡ given_memory w v m)
 unfolding given_memory
-given w w₁ v m b s n size row bs m₁ m₂ m₃ e f g h i j k l o q =
-    let (t, len) = brought_some b v n e in
+given w w₁ v m b s size bs m₁ m₂ m₃ t f g h bytes k l o q =
     let lim = limits_parts (length v.key) v.moment v.gone (length v.value) t in
     let z : size ≡ encoded_length v = f lim.short lim.small in
     let bz : b ≡ begins w (encoded_length v) = g ∙ ap (begins w) z in
-    let bytes : bs ≡ brought b s v = j ∙ ap (λ x. take x row) (len ∙ same_long b s v) ∙ i t in
     let hand : m₁ ≡ in_hand (brought (begins w (encoded_length v)) (bound_after w.block.count m v.key) v) m =
     k ∙ ap (λ x. in_hand x m) bytes ∙ (λ x. in_hand (brought (bz x) (h x) v) m) in
     rw t (

@@ -14,7 +14,8 @@ use Rattle.table.proofs.SizeLaws.{short_version, length_entry}
 use Rattle.table.proofs.WritingLaws.{gives}
 use Rattle.value.proofs.TestLaws.{clash}
 use Rattle.store.specs.House.{House}
-use Rattle.flushing_store.specs.Control.{memory_words, region, index_of, arena_of, stage_region, ring_of, list_of, hand_of, data_of, entries_of}
+use Rattle.flushing_store.specs.Control.{memory_words, stage_region, ring_of, list_of, hand_of, data_of, entries_of}
+use Rattle.store.specs.Regions.{region, index_of, arena_of}
 use Rattle.flushing_store.specs.Stage.{staged}
 use Rattle.flushing_store.specs.Give.{bound_after, brought, ended_block, in_hand, with_entry, given_memory}
 use Rattle.flushing_store.specs.declared.control.Control.{Control}

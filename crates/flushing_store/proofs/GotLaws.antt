@@ -19,9 +19,9 @@ use Rattle.memtable.proofs.ReadLaws.{fits_parts}
 use Rattle.memtable.proofs.AnswerLaws.{find_right}
 use Rattle.manifest.specs.declared.fields.Manifest.{Manifest}
 use Rattle.store.specs.House.{House, get, a_key, shown_as, shows}
-use Rattle.flushing_store.specs.Control.{control_of, index_of, arena_of}
-use Rattle.flushing_store.specs.Shown.{row_at, row_of}
-use Rattle.flushing_store.specs.Get.{sought}
+use Rattle.flushing_store.specs.Control.{control_of}
+use Rattle.store.specs.Regions.{index_of, arena_of, sought}
+use Rattle.store.specs.Shown.{row_at, row_of}
 use Rattle.flushing_store.specs.declared.control.Phase.{Phase}
 use Rattle.flushing_store.proofs.HeldLaws.{Held}
 
@@ -111,7 +111,7 @@ module _ (h : House) (key : List ℕ) (s : ℕ) where
 
 -- what memory finds
 pub found_is : (pages : ℕ) (h : House) (f : Manifest) (p : Phase) (m key : List ℕ) (s : ℕ) (o : Held pages h f p m) → bytes key ≡ true →
-    each (version_at (arena_of m)) (as_list (sought (control_of m) m key s)) ≡ latest o.fresh key s
+    each (version_at (arena_of m)) (as_list (sought (control_of m).base.table m key s)) ≡ latest o.fresh key s
 unfolding sought
 found_is pages h f p m key s o b =
     ap (λ t. each (version_at (arena_of m)) (as_list (found t.table (index_of m) (arena_of m) key s))) o.base_is

@@ -18,11 +18,12 @@ use Rattle.table.specs.declared.writer.Writer.{Writer}
 use Rattle.table.proofs.RowLaws.{octets_bytes}
 use Rattle.table.proofs.SizeLaws.{length_entry, short_version}
 use Rattle.store.specs.House.{House}
-use Rattle.flushing_store.specs.Control.{memory_words, within, region, stage_region, hand_of, entries_of}
+use Rattle.flushing_store.specs.Control.{memory_words, stage_region, hand_of, entries_of}
+use Rattle.store.specs.Regions.{within, region}
 use Rattle.flushing_store.specs.Octets.{put_octets}
 use Rattle.flushing_store.specs.Stage.{staged}
 use Rattle.flushing_store.specs.Give.{bound_after, brought, ended_block, in_hand}
-use Rattle.flushing_store.proofs.RegionLaws.{length_within, region_same, region_above, region_below, length_region}
+use Rattle.store.proofs.RegionLaws.{length_within, region_same, region_above, region_below, length_region}
 use Rattle.flushing_store.proofs.BytesLaws.{stage_reads, octets_put, put_octets_long}
 use Rattle.flushing_store.proofs.FlushAccount.{Job, Staged, none_yet, last_given}
 

@@ -9,10 +9,12 @@ use Rattle.memtable.proofs.AnswerLaws.{sizes_suffice}
 use Rattle.manifest.specs.Manifest.{Fits}
 use Rattle.manifest.specs.declared.fields.Manifest.{Manifest}
 use Rattle.store.specs.House.{House}
-use Rattle.flushing_store.specs.Control.{memory_words, region, within, base, base_from, manifest_from, control_of, put_control, index_of, arena_of}
+use Rattle.flushing_store.specs.Control.{memory_words, base, base_from, manifest_from, control_of, put_control}
+use Rattle.store.specs.Regions.{region, within, index_of, arena_of}
 use Rattle.flushing_store.specs.declared.control.Phase.{Phase}
 use Rattle.flushing_store.specs.declared.control.Control.{Control}
-use Rattle.flushing_store.proofs.RegionLaws.{length_within, region_below, region_put, length_put, SmallBase, base_put, manifest_put}
+use Rattle.flushing_store.proofs.RegionLaws.{region_put, length_put, SmallBase, base_put, manifest_put}
+use Rattle.store.proofs.RegionLaws.{length_within, region_below}
 
 pub record Held (pages : ℕ) (h : House) (f : Manifest) (p : Phase) (m : List ℕ) : Type 0 where
   -- those that are not safe

@@ -15,7 +15,6 @@ pub mod GiveRounds
 pub mod GotLaws
 pub mod HandLaws
 pub mod HeldLaws
-pub mod LaidLaws
 pub mod LookLaws
 pub mod LookServes
 pub mod NextRounds
@@ -27,7 +26,6 @@ pub mod PowerServes
 pub mod RegionLaws
 pub mod RoundAccount
 pub mod RoundLaws
-pub mod ShownLaws
 pub mod SpinLaws
 pub mod StageLaws
 pub mod SteadyLaws

@@ -19,13 +19,15 @@ use Rattle.table.proofs.LookupLaws.{lookup_right}
 use Rattle.manifest.specs.declared.fields.Manifest.{Manifest}
 use Rattle.store.specs.House.{House, unsafe}
 use Rattle.store.specs.Promise.{Event, page, World, world, Step, read}
-use Rattle.flushing_store.specs.Acts.{stepped}
-use Rattle.flushing_store.specs.Control.{memory_words, within, base, control, base_from, manifest_from, lookup_from, merging_from, control_of, put_control, to_phase, with_lookup, index_of, arena_of, stage_region, ring_of}
+use Rattle.store.specs.Acts.{stepped}
+use Rattle.flushing_store.specs.Control.{memory_words, base, control, base_from, manifest_from, lookup_from, merging_from, control_of, put_control, to_phase, with_lookup, stage_region, ring_of}
+use Rattle.store.specs.Regions.{within, index_of, arena_of}
 use Rattle.flushing_store.specs.Stage.{staged}
 use Rattle.flushing_store.specs.Look.{extent_of, page_in, looked, asked}
 use Rattle.flushing_store.specs.declared.control.Phase.{Phase}
 use Rattle.flushing_store.specs.declared.control.Control.{Control}
-use Rattle.flushing_store.proofs.RegionLaws.{region_same, region_below, length_region, region_put, SmallBase, base_put, SmallLookup, lookup_put}
+use Rattle.flushing_store.proofs.RegionLaws.{region_put, SmallBase, base_put, SmallLookup, lookup_put}
+use Rattle.store.proofs.RegionLaws.{region_same, region_below, length_region}
 use Rattle.flushing_store.proofs.StoredLaws.{Stored, AllPages, page_cut, of_bytes, page_none}
 use Rattle.flushing_store.proofs.HeldLaws.{Held, small_base, held_put, held_within}
 use Rattle.flushing_store.proofs.OwnAccount.{Rest, Looks, lookup_left}

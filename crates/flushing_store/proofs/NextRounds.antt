@@ -1,5 +1,5 @@
 -- A round in which the next version is due: the lesser head of the two runs is handed over, and of one key the later run's.
-use Rattle.std.proofs.Common.{◌≡◌, ℕ, zero, suc, ◌+◌, ◌<◌, ◌≤◌, Bool, true, false, leb, List, [], ◌∷◌, length, get_or, drop, sym, refl, ap, ◌∙◌, subst, arith, le-ltb, lt-ltb}
+use Rattle.std.proofs.Common.{◌≡◌, ℕ, zero, suc, ◌+◌, ◌<◌, ◌≤◌, Bool, true, false, leb, List, [], ◌∷◌, length, get_or, drop, sym, refl, ap, ◌∙◌, subst, arith, le-ltb, lt-ltb, None}
 use Rattle.std.proofs.lemmas.List.{take_all}
 use Rattle.value.specs.Versions.{pick, every, Version, version}
 use Rattle.value.specs.Encoding.{fits, encoded_length, end_of}
@@ -23,13 +23,13 @@ use Rattle.table.specs.declared.lookup.Entry.{Entry}
 use Rattle.table.proofs.CursorLaws.{cursor_right}
 use Rattle.table.proofs.WalkLaws.{advanced_pages}
 use Rattle.store.specs.House.{House}
-use Rattle.flushing_store.specs.Control.{merging, with_merging, index_of, arena_of, ring_of, list_of, hand_of, data_of, entries_of}
+use Rattle.flushing_store.specs.Control.{merging, with_merging, ring_of, list_of, hand_of, data_of, entries_of}
+use Rattle.store.specs.Regions.{index_of, arena_of}
 use Rattle.flushing_store.specs.Stage.{version_of}
 use Rattle.flushing_store.specs.Look.{extent_of}
 use Rattle.flushing_store.specs.Give.{given_writer, given_memory}
 use Rattle.flushing_store.specs.Round.{a_turn, walked_on, with_cursor, handed_turn, memory_turn, table_turn}
 use Rattle.flushing_store.specs.declared.control.Control.{Control}
-use Rattle.flushing_store.specs.declared.turn.Deed.TheVariants.{More}
 use Rattle.flushing_store.proofs.RegionLaws.{SmallCursor}
 use Rattle.flushing_store.proofs.StoredLaws.{of_bytes}
 use Rattle.flushing_store.proofs.FlushAccount.{Job, new_stream, new_entries}
@@ -68,7 +68,7 @@ module _ (n pages : ℕ) (h : House) (j : Job n pages h) (k : Control) (m : List
       Gave n pages h j k m v rest (gave k.merging.writer (encoded_length v)) (given_memory k.merging.writer v m) →
       rest ≡ merge (drop walked (sort j.fresh)) trest → walked ≤ length j.fresh → SmallCursor c → c.listed ≡ k.merging.cursor.listed → c.read ≡ k.merging.cursor.read →
       Walking (extent_of j.list) j.before h.safe c (ring_of m) (list_of m) trest → every fits trest ≡ true →
-      Rounded n pages h j k m (a_turn (with_merging k (merging c (gave k.merging.writer (encoded_length v)) walked k.merging.waiting)) More) (given_memory k.merging.writer v m)
+      Rounded n pages h j k m (a_turn (with_merging k (merging c (gave k.merging.writer (encoded_length v)) walked k.merging.waiting)) None) (given_memory k.merging.writer v m)
   handed v rest c walked trest g e le sc ec er walking tf =
       let m₁ : List ℕ = given_memory k.merging.writer v m in
       let w₁ : Writer = gave k.merging.writer (encoded_length v) in

@@ -14,14 +14,16 @@ use Rattle.table.proofs.StreamLaws.{sealed_page_is}
 use Rattle.table.proofs.RowLaws.{length_octets}
 use Rattle.table.proofs.WritingLaws.{takes, puts}
 use Rattle.store.specs.House.{House}
-use Rattle.flushing_store.specs.Control.{memory_words, within, region, index_of, arena_of, stage_region, ring_of, list_of, hand_of, data_of, entries_of}
+use Rattle.flushing_store.specs.Control.{memory_words, stage_region, ring_of, list_of, hand_of, data_of, entries_of}
+use Rattle.store.specs.Regions.{within, region, index_of, arena_of}
 use Rattle.flushing_store.specs.Octets.{put_octets}
 use Rattle.flushing_store.specs.Look.{extent_of}
 use Rattle.flushing_store.specs.Round.{took_bytes, settled_turn, data_turn, positions_turn, took_turn}
 use Rattle.flushing_store.specs.declared.control.Phase.{Phase}
 use Rattle.flushing_store.specs.declared.control.Phase.TheVariants.{Merging as MergingPhase}
 use Rattle.flushing_store.specs.declared.control.Control.{Control}
-use Rattle.flushing_store.proofs.RegionLaws.{length_within, region_same, region_above, region_below, length_region, SmallWriter}
+use Rattle.flushing_store.proofs.RegionLaws.{SmallWriter}
+use Rattle.store.proofs.RegionLaws.{length_within, region_same, region_above, region_below, length_region}
 use Rattle.flushing_store.proofs.BytesLaws.{take_octets, drop_octets, octets_again, octets_put, put_octets_long, octets_of_bytes}
 use Rattle.flushing_store.proofs.FlushAccount.{Job, new_stream, new_entries, start_page, data_page, KeepsMemory, Staged, none_yet, last_given}
 use Rattle.flushing_store.proofs.RoundAccount.{start_is, data_is, start_small, half_room, At, rounds_left, Rounded, more, settles, puts_data, puts_positions}

@@ -12,8 +12,9 @@ use Rattle.manifest.proofs.CommitLaws.{choice_right}
 use Rattle.manifest.proofs.PageLaws.{any_fits}
 use Rattle.store.specs.Promise.{Event, on, page, done, World, world}
 use Rattle.store.specs.Account.{rested, Fresh, WakesUp, WakesOn, WakingStops, IdleStops}
-use Rattle.flushing_store.specs.Acts.{stepped}
-use Rattle.flushing_store.specs.Control.{memory_words, base, control, control_of, put_control, index_of, arena_of}
+use Rattle.store.specs.Acts.{stepped}
+use Rattle.flushing_store.specs.Control.{memory_words, base, control, control_of, put_control}
+use Rattle.store.specs.Regions.{index_of, arena_of}
 use Rattle.flushing_store.specs.Power.{powered, first_phase, first_listed, woken, second_listed}
 use Rattle.flushing_store.specs.Own.{paged_by, turned, own}
 use Rattle.flushing_store.specs.declared.control.Phase.{Phase}

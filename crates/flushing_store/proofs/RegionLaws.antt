@@ -1,7 +1,5 @@
 -- The machine's memory seen through its parts: what a change of one part leaves of the others, and that control words come back as they were put.
-use Rattle.std.proofs.Common.{◌≡◌, ℕ, suc, ◌+◌, ◌<◌, ◌≤◌, Bool, true, false, eqb, List, [], ◌∷◌, ◌++◌, length, take, drop, sym, refl, ap, ◌∙◌, arith, length-append, length-drop, length-take}
-use Rattle.std.proofs.lemmas.List.{drop_at, take_at, length-take-le, drop-take}
-use Rattle.std.proofs.lemmas.Slice.{drop-put_mid, take-put_mid_below}
+use Rattle.std.proofs.Common.{◌≡◌, ℕ, suc, ◌<◌, ◌≤◌, Bool, true, false, eqb, List, [], ◌∷◌, length, refl, ap, ◌∙◌, arith}
 use Rattle.memtable.specs.Memtable.{memtable}
 use Rattle.table.specs.declared.cursor.Cursor.{Cursor}
 use Rattle.table.specs.declared.lookup.Lookup.{Lookup}
@@ -13,34 +11,14 @@ use Rattle.manifest.specs.Manifest.{half_number, half_of, flag, Fits}
 use Rattle.manifest.specs.declared.fields.Half.{Half}
 use Rattle.manifest.specs.declared.fields.Half.TheVariants.{First, Second}
 use Rattle.manifest.specs.declared.fields.Manifest.{Manifest}
-use Rattle.flushing_store.specs.Control.{memory_words, region, within, wrap, wraps, base, merging, phase_of, phase_number, stage_of, stage_number, base_words, base_from, manifest_words, manifest_from, lookup_words, lookup_from, merging_words, merging_from, control_of, put_control}
+use Rattle.flushing_store.specs.Control.{memory_words, wraps, base, merging, phase_of, phase_number, stage_of, stage_number, base_words, base_from, manifest_words, manifest_from, lookup_words, lookup_from, merging_words, merging_from, control_of, put_control}
+use Rattle.store.specs.Regions.{region, within, wrap}
+use Rattle.store.proofs.RegionLaws.{length_within, region_same, region_above, region_below}
 use Rattle.flushing_store.specs.declared.control.Phase.{Phase}
 use Rattle.flushing_store.specs.declared.control.Phase.TheVariants.{Idle, Shown, FirstList, AfterWhole, AfterTorn, Getting, Writing, Merging as MergingPhase, Closed, Placed, Settled, Listed, Committed}
 use Rattle.flushing_store.specs.declared.control.Base.{Base}
 use Rattle.flushing_store.specs.declared.control.Merging.{Merging}
 use Rattle.flushing_store.specs.declared.control.Control.{Control}
-
--- five laws, once for all regions
-pub length_within : (a n : ℕ) (f : List ℕ → List ℕ) (m : List ℕ) → a + n ≤ length m → length (f (region a n m)) ≡ n → length (within a n f m) ≡ length m
-unfolding region within
-length_within a n f m h e = simp (length-append, length-take, length-drop) (omega arith)
-
-pub region_same : (a n : ℕ) (f : List ℕ → List ℕ) (m : List ℕ) → a + n ≤ length m → length (f (region a n m)) ≡ n → region a n (within a n f m) ≡ f (region a n m)
-unfolding region within
-region_same a n f m h e =
-    ap (take n) (drop_at (take a m) (f (region a n m) ++ drop n (drop a m)) a (length-take-le a m (omega arith))) ∙ take_at (f (region a n m)) (drop n (drop a m)) n e
-
-pub region_above : (a n b k : ℕ) (f : List ℕ → List ℕ) (m : List ℕ) → a + n ≤ length m → length (f (region a n m)) ≡ n → a + n ≤ b → region b k (within a n f m) ≡ region b k m
-unfolding region within
-region_above a n b k f m h e le = ap (take k) (drop-put_mid a n m (f (region a n m)) b le (omega arith) e)
-
-pub region_below : (a n b k : ℕ) (f : List ℕ → List ℕ) (m : List ℕ) → a + n ≤ length m → b + k ≤ a → region b k (within a n f m) ≡ region b k m
-unfolding region within
-region_below a n b k f m h le = sym (drop-take b k _) ∙ ap (drop b) (take-put_mid_below a n m (f (region a n m)) (b + k) le (omega arith)) ∙ drop-take b k m
-
-pub length_region : (a n : ℕ) (m : List ℕ) → a + n ≤ length m → length (region a n m) ≡ n
-unfolding region
-length_region a n m h = length-take-le n (drop a m) (omega (arith, length-drop a m))
 
 -- WORDS THAT ARE PUT
 length_wraps : (xs : List ℕ) → length (wraps xs) ≡ length xs

@@ -1,5 +1,5 @@
 -- What a round of a flush leaves: it goes on, with less to do till a page is due; or a page is to be read or put, or all that wait settled; or the table is closed.
-use Rattle.std.proofs.Common.{◌≡◌, ℕ, suc, ◌+◌, ◌-◌, ◌*◌, ◌<◌, ◌≤◌, min, true, ltb, ◌⊎◌, List, length, sym, ap, ◌∙◌, arith}
+use Rattle.std.proofs.Common.{◌≡◌, ℕ, suc, ◌+◌, ◌-◌, ◌*◌, ◌<◌, ◌≤◌, min, true, ltb, ◌⊎◌, List, length, sym, ap, ◌∙◌, arith, Some, None}
 use Rattle.value.specs.Versions.{pick, every, weight}
 use Rattle.value.specs.Encoding.{fits}
 use Rattle.value.specs.Sorted.{sort}
@@ -25,7 +25,7 @@ use Rattle.flushing_store.specs.declared.control.Phase.{Phase}
 use Rattle.flushing_store.specs.declared.control.Phase.TheVariants.{Merging as MergingPhase, Closed, Placed}
 use Rattle.flushing_store.specs.declared.control.Merging.{Merging}
 use Rattle.flushing_store.specs.declared.control.Control.{Control}
-use Rattle.flushing_store.specs.declared.turn.Deed.TheVariants.{More, Fetch, Data, Positions, Settle}
+use Rattle.flushing_store.specs.declared.turn.Deed.TheVariants.{Fetch, Data, Positions, Settle}
 use Rattle.flushing_store.specs.declared.turn.Turn.{Turn}
 use Rattle.flushing_store.proofs.RegionLaws.{SmallCursor, SmallWriter}
 use Rattle.flushing_store.proofs.FlushAccount.{Job, new_stream, new_entries, start_page, data_page, KeepsMemory, Merges, LastPage}
@@ -100,21 +100,21 @@ module _ (n pages : ℕ) (h : House) (j : Job n pages h) where
     pub small_waiting : g.waiting < 18446744073709551616
 
   pub data Rounded (k : Control) (m : List ℕ) : Turn → List ℕ → Type 0 where
-    more : (k₁ : Control) (m₁ : List ℕ) → At k₁ m₁ → rounds_left k₁.merging < rounds_left k.merging → SameCounts k.merging k₁.merging → Rounded k m (a_turn k₁ More) m₁
-    fetches : (q : ℕ) → (wanted k.merging.cursor (extent_of j.list) (list_of m) ≡ WantsPositions q) ⊎ (wanted k.merging.cursor (extent_of j.list) (list_of m) ≡ WantsData q) → Rounded k m (a_turn k (Fetch q)) m
+    more : (k₁ : Control) (m₁ : List ℕ) → At k₁ m₁ → rounds_left k₁.merging < rounds_left k.merging → SameCounts k.merging k₁.merging → Rounded k m (a_turn k₁ None) m₁
+    fetches : (q : ℕ) → (wanted k.merging.cursor (extent_of j.list) (list_of m) ≡ WantsPositions q) ⊎ (wanted k.merging.cursor (extent_of j.list) (list_of m) ≡ WantsData q) → Rounded k m (a_turn k (Some (Fetch q))) m
     settles : (k₁ : Control) → At k₁ m → SameCounts k.merging (record { cursor = k₁.merging.cursor; writer = k₁.merging.writer; walked = k₁.merging.walked; waiting = k.merging.waiting }) →
-        254 ≤ k.merging.waiting → k₁.merging.waiting ≡ 0 → Rounded k m (a_turn k₁ Settle) m
+        254 ≤ k.merging.waiting → k₁.merging.waiting ≡ 0 → Rounded k m (a_turn k₁ (Some Settle)) m
     puts_data : (k₁ : Control) (q : ℕ) → At k₁ m → NextData k.merging m → q ≡ data_page n pages h j + k.merging.writer.stream.put →
         k₁.merging.writer.stream.put ≡ suc k.merging.writer.stream.put → k₁.merging.writer.positions.put ≡ k.merging.writer.positions.put → k₁.merging.cursor ≡ k.merging.cursor →
-        Rounded k m (a_turn k₁ (Data q k.merging.writer.stream.fill)) m
+        Rounded k m (a_turn k₁ (Some (Data q k.merging.writer.stream.fill))) m
     puts_positions : (k₁ : Control) (q : ℕ) → At k₁ m → NextPositions k.merging m → q ≡ start_page n pages h j + k.merging.writer.positions.put →
         k₁.merging.writer.positions.put ≡ suc k.merging.writer.positions.put → k₁.merging.writer.stream.put ≡ k.merging.writer.stream.put → k₁.merging.cursor ≡ k.merging.cursor →
-        Rounded k m (a_turn k₁ (Positions q k.merging.writer.positions.fill)) m
+        Rounded k m (a_turn k₁ (Some (Positions q k.merging.writer.positions.fill))) m
     closes_data : (k₁ : Control) (m₁ : List ℕ) (q : ℕ) → KeepsMemory n pages h j Closed k₁ m₁ → NextData k.merging m₁ → q ≡ data_page n pages h j + k.merging.writer.stream.put →
         Over k₁.merging → k₁.merging.writer.stream.put ≡ suc k.merging.writer.stream.put → k₁.merging.writer.positions.put ≡ k.merging.writer.positions.put → LastPage n pages h j k₁.merging m₁ →
-        Rounded k m (a_turn k₁ (Data q k.merging.writer.stream.fill)) m₁
+        Rounded k m (a_turn k₁ (Some (Data q k.merging.writer.stream.fill))) m₁
     closes_positions : (k₁ : Control) (m₁ : List ℕ) (q f : ℕ) → KeepsMemory n pages h j Placed k₁ m₁ →
         suc k.merging.writer.positions.put ≡ page_count (length (new_entries n pages h j)) →
         page_of (new_entries n pages h j) k.merging.writer.positions.put ≡ sealed (octets (min f 504) (entries_of m₁)) → a_page (sealed (octets (min f 504) (entries_of m₁))) ≡ true →
         q ≡ start_page n pages h j + k.merging.writer.positions.put →
-        Over k₁.merging → k₁.merging.writer.stream.put ≡ k.merging.writer.stream.put → Rounded k m (a_turn k₁ (Positions q f)) m₁
+        Over k₁.merging → k₁.merging.writer.stream.put ≡ k.merging.writer.stream.put → Rounded k m (a_turn k₁ (Some (Positions q f))) m₁

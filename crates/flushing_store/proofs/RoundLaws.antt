@@ -18,13 +18,14 @@ use Rattle.table.specs.declared.lookup.Entry.{Entry}
 use Rattle.table.specs.declared.writer.Writer.{Writer}
 use Rattle.table.specs.declared.writer.Due.{Due}
 use Rattle.table.specs.declared.writer.Due.TheVariants.{Data as DataDue, Positions as PositionsDue, Take, Next}
-use Rattle.flushing_store.specs.Control.{arena_of, list_of}
+use Rattle.flushing_store.specs.Control.{list_of}
+use Rattle.store.specs.Regions.{arena_of}
 use Rattle.flushing_store.specs.Stage.{version_of}
 use Rattle.flushing_store.specs.Look.{extent_of}
 use Rattle.flushing_store.specs.Give.{given_writer, given_memory}
 use Rattle.flushing_store.specs.Round.{a_turn, with_writer, with_cursor, walked_on, handed_turn, settled_turn, data_turn, positions_turn, took_turn, took_bytes, memory_head, leads, memory_turn, table_turn, closed_turn, head_turn, block_in, block_turn, next_turn, round}
 use Rattle.flushing_store.specs.declared.control.Control.{Control}
-use Rattle.flushing_store.specs.declared.turn.Deed.TheVariants.{More, Fetch}
+use Rattle.flushing_store.specs.declared.turn.Deed.TheVariants.{Fetch}
 use Rattle.flushing_store.specs.declared.turn.Turn.{Turn}
 
 pub leads_later : (m : List ℕ) (at : ℕ) (block : List ℕ) (p : Place) (ks js : List ℕ) → ks ≡ key_in (arena_of m) at → js ≡ key_at block p → Later ≡ chosen (Some ks) (Some js) → true ≡ leads m at block p
@@ -37,25 +38,25 @@ leads_earlier m at block p ks js e f g = ap (λ x. by_choice x true false false)
 
 -- a version is handed over
 module _ (k : Control) (m : List ℕ) (v : Version) (o : Option Writer) (e : o ≡ given_writer k.merging.writer v) (m₁ : List ℕ) (f : m₁ ≡ given_memory k.merging.writer v m) where
-  pub memory_none : (at : ℕ) → v ≡ version_of (arena_of m) at → o ≡ None → (a_turn k More ≡ (memory_turn k m at).turn) × (m₁ ≡ (memory_turn k m at).memory)
+  pub memory_none : (at : ℕ) → v ≡ version_of (arena_of m) at → o ≡ None → (a_turn k None ≡ (memory_turn k m at).turn) × (m₁ ≡ (memory_turn k m at).memory)
   unfolding memory_turn
   memory_none at g h = rw (← g, ← e, h) (refl, f)
 
-  pub memory_some : (at : ℕ) (w : Writer) → v ≡ version_of (arena_of m) at → o ≡ Some w → (a_turn (with_writer (walked_on k) w) More ≡ (memory_turn k m at).turn) × (m₁ ≡ (memory_turn k m at).memory)
+  pub memory_some : (at : ℕ) (w : Writer) → v ≡ version_of (arena_of m) at → o ≡ Some w → (a_turn (with_writer (walked_on k) w) None ≡ (memory_turn k m at).turn) × (m₁ ≡ (memory_turn k m at).memory)
   unfolding memory_turn
   memory_some at w g h = rw (← g, ← e, h) (refl, f)
 
-  pub table_none : (block : List ℕ) (p : Place) → v ≡ version_at block p → o ≡ None → (a_turn k More ≡ (table_turn k m block p).turn) × (m₁ ≡ (table_turn k m block p).memory)
+  pub table_none : (block : List ℕ) (p : Place) → v ≡ version_at block p → o ≡ None → (a_turn k None ≡ (table_turn k m block p).turn) × (m₁ ≡ (table_turn k m block p).memory)
   unfolding table_turn
   table_none block p g h =
       let c = advanced k.merging.cursor (listed_entry k.merging.cursor (list_of m)) p in
       (ap (handed_turn k (with_cursor k c)) (sym h ∙ e ∙ ap (given_writer k.merging.writer) g), f ∙ ap (λ x. given_memory k.merging.writer x m) g)
 
   pub table_some : (block : List ℕ) (p : Place) (w : Writer) (c : Cursor) → v ≡ version_at block p → o ≡ Some w → c ≡ advanced k.merging.cursor (listed_entry k.merging.cursor (list_of m)) p →
-      (a_turn (with_writer (with_cursor k c) w) More ≡ (table_turn k m block p).turn) × (m₁ ≡ (table_turn k m block p).memory)
+      (a_turn (with_writer (with_cursor k c) w) None ≡ (table_turn k m block p).turn) × (m₁ ≡ (table_turn k m block p).memory)
   unfolding table_turn
   table_some block p w c g h q = (
-    ap (λ x. a_turn (with_writer (with_cursor k x) w) More) q
+    ap (λ x. a_turn (with_writer (with_cursor k x) w) None) q
         ∙ ap (handed_turn k (with_cursor k (advanced k.merging.cursor (listed_entry k.merging.cursor (list_of m)) p))) (sym h ∙ e ∙ ap (given_writer k.merging.writer) g),
     f ∙ ap (λ x. given_memory k.merging.writer x m) g,
   )
@@ -98,11 +99,11 @@ block_is k m block o t m₁ e f a b = rw (← e, ← f) (a, b)
 
 -- what the cursor waits for
 module _ (k : Control) (m : List ℕ) (w : Want) (e : w ≡ wanted k.merging.cursor (extent_of k.manifest) (list_of m)) where
-  pub next_positions : (q : ℕ) → w ≡ WantsPositions q → (a_turn k (Fetch q) ≡ (next_turn k m).turn) × (m ≡ (next_turn k m).memory)
+  pub next_positions : (q : ℕ) → w ≡ WantsPositions q → (a_turn k (Some (Fetch q)) ≡ (next_turn k m).turn) × (m ≡ (next_turn k m).memory)
   unfolding next_turn
   next_positions q f = rw (← e, f) (refl, refl)
 
-  pub next_data : (q : ℕ) → w ≡ WantsData q → (a_turn k (Fetch q) ≡ (next_turn k m).turn) × (m ≡ (next_turn k m).memory)
+  pub next_data : (q : ℕ) → w ≡ WantsData q → (a_turn k (Some (Fetch q)) ≡ (next_turn k m).turn) × (m ≡ (next_turn k m).memory)
   unfolding next_turn
   next_data q f = rw (← e, f) (refl, refl)
 

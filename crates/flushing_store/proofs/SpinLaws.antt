@@ -17,10 +17,11 @@ use Rattle.table.specs.declared.cursor.Want.TheVariants.{Positions as WantsPosit
 use Rattle.table.specs.declared.writer.Due.TheVariants.{Data as DataDue, Positions as PositionsDue, Take, Next as NextDue}
 use Rattle.table.proofs.CursorLaws.{cursor_right}
 use Rattle.store.specs.House.{House}
-use Rattle.flushing_store.specs.Control.{index_of, arena_of, ring_of, list_of}
+use Rattle.flushing_store.specs.Control.{ring_of, list_of}
+use Rattle.store.specs.Regions.{index_of, arena_of}
 use Rattle.flushing_store.specs.Look.{extent_of}
 use Rattle.flushing_store.specs.Round.{Went, memory_head, leads, memory_turn, table_turn, heads_turn, head_turn, block_in, block_turn, wanted_turn, next_turn, due_turn, settled_turn, round}
-use Rattle.flushing_store.specs.Flush.{is_more, spun_from, spun}
+use Rattle.flushing_store.specs.Flush.{spun_from, spun}
 use Rattle.flushing_store.specs.declared.control.Control.{Control}
 use Rattle.flushing_store.specs.declared.control.Merging.{Merging}
 use Rattle.flushing_store.specs.declared.turn.Turn.{Turn}
@@ -29,6 +30,7 @@ use Rattle.flushing_store.proofs.RoundAccount.{At, rounds_left, SameCounts, Roun
 use Rattle.flushing_store.proofs.PageRounds.{settle_round, data_round, positions_round, take_round}
 use Rattle.flushing_store.proofs.NextRounds.{mine_first, memory_round, heads, table_round}
 use Rattle.flushing_store.proofs.CloseRounds.{close_round}
+use Rattle.std.specs.Prelude.{is_some}
 
 alone : (x : Version) (xs : List Version) → merge (x ∷ xs) [] ≡ x ∷ merge xs []
 alone x xs = merge_nil (x ∷ xs) ∙ ap (λ y. x ∷ y) (sym (merge_nil xs))
@@ -147,7 +149,7 @@ module _ (n pages : ℕ) (h : House) (j : Job n pages h) where
 
   -- MANY ROUNDS
   pub data Spun (k : Control) (m : List ℕ) (t : Went) : Type 0 where
-    comes_to : (k₁ : Control) (m₁ : List ℕ) → At n pages h j k₁ m₁ → SameCounts n pages h j k.merging k₁.merging → Rounded n pages h j k₁ m₁ t.turn t.memory → is_more t.turn.deed ≡ false → Spun k m t
+    comes_to : (k₁ : Control) (m₁ : List ℕ) → At n pages h j k₁ m₁ → SameCounts n pages h j k.merging k₁.merging → Rounded n pages h j k₁ m₁ t.turn t.memory → is_some t.turn.deed ≡ true → Spun k m t
 
   same_all : (g : Merging) → SameCounts n pages h j g g
   same_all g = record { puts = refl; lists = refl; listed = refl; read = refl; waiting = refl }

@@ -9,7 +9,7 @@ use Rattle.memtable.proofs.ReadLaws.{fits_parts, length_encoded}
 use Rattle.memtable.proofs.SteadyLaws.{append_keeps}
 use Rattle.flushing_store.specs.Control.{memory_words, stage_region}
 use Rattle.flushing_store.specs.Stage.{staged, version_of}
-use Rattle.flushing_store.proofs.RegionLaws.{length_region, region_same}
+use Rattle.store.proofs.RegionLaws.{length_region, region_same}
 use Rattle.flushing_store.proofs.BytesLaws.{stage_reads}
 
 stands : (ws : List ℕ) (v : Version) → length ws ≡ 162 → fits v ≡ true → Stands (take (length (encoded v)) (appended ws 0 v)) 0 v

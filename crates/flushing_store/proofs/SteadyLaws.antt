@@ -28,18 +28,20 @@ use Rattle.table.proofs.RowLaws.{length_octets}
 use Rattle.table.proofs.StreamLaws.{length_payload}
 use Rattle.store.specs.House.{Command, write, erase, get, range, first_key, last_key, count, flush, compact, a_key}
 use Rattle.store.specs.Promise.{Event, on, said, page, next, Step, done, tells, refused, all_small, Steady}
-use Rattle.flushing_store.specs.Acts.{stepped}
-use Rattle.flushing_store.specs.Control.{memory_words, wrap, wraps, base_words, manifest_words, lookup_words, merging_words, control_of, put_control, to_phase, region, within, arena_of, stage_region, list_of}
+use Rattle.store.specs.Acts.{stepped}
+use Rattle.flushing_store.specs.Control.{memory_words, wraps, base_words, manifest_words, lookup_words, merging_words, control_of, put_control, to_phase, stage_region, list_of}
+use Rattle.store.specs.Regions.{wrap, region, within, arena_of, in_arena, in_index, sought}
 use Rattle.flushing_store.specs.Octets.{put_octets}
 use Rattle.flushing_store.specs.Stage.{staged, staged_version}
 use Rattle.flushing_store.specs.Look.{extent_of, page_in, asked_for, asked}
-use Rattle.flushing_store.specs.Shown.{row_at, row_of}
+use Rattle.store.specs.Shown.{row_at, row_of}
 use Rattle.flushing_store.specs.Power.{powered, first_listed, second_listed}
-use Rattle.flushing_store.specs.Write.{checked, key_size, value_size, proper_moment, not_earlier, unwritten, roomy, within_pages, in_arena, in_index, put_in, accepted, sought_below, begun_write, wrote, finished, written_by, wrote_by, wrote_on}
-use Rattle.flushing_store.specs.Get.{sought, begun_get, got_below, told_of, got, shown_by, got_by, got_on}
+use Rattle.flushing_store.specs.Write.{put_in, accepted, sought_below, begun_write, wrote, finished, written_by, wrote_by, wrote_on}
+use Rattle.store.specs.Checks.{checked, key_size, value_size, proper_moment, not_earlier, unwritten, roomy, within_pages}
+use Rattle.flushing_store.specs.Get.{begun_get, got_below, told_of, got, shown_by, got_by, got_on}
 use Rattle.flushing_store.specs.Give.{bound_after, brought, ended_block, in_hand, with_entry, given_memory}
 use Rattle.flushing_store.specs.Round.{Went, took_bytes, memory_head, leads, memory_turn, table_turn, closed_turn, heads_turn, head_turn, block_in, block_turn, wanted_turn, next_turn, due_turn, settled_turn, round, positions_turn}
-use Rattle.flushing_store.specs.Flush.{is_more, spun_from, spun, performed, merged_on, begun_flush, flushed_step, page_taken, page_merged, last_step, listed_step, committed_step}
+use Rattle.flushing_store.specs.Flush.{spun_from, spun, performed, merged_on, begun_flush, flushed_step, page_taken, page_merged, last_step, listed_step, committed_step}
 use Rattle.flushing_store.specs.Own.{went_on, paged_by, heard, turned, blank_memory, own}
 use Rattle.flushing_store.specs.declared.look.Looked.{Looked}
 use Rattle.flushing_store.specs.declared.look.Looked.TheVariants.{On, Found, Missing}
@@ -47,10 +49,11 @@ use Rattle.flushing_store.specs.declared.control.Phase.{Phase}
 use Rattle.flushing_store.specs.declared.control.Phase.TheVariants.{Idle, Shown, FirstList, AfterWhole, AfterTorn, Getting, Writing, Merging, Closed, Placed, Settled, Listed, Committed}
 use Rattle.flushing_store.specs.declared.control.Control.{Control}
 use Rattle.flushing_store.specs.declared.turn.Deed.{Deed}
-use Rattle.flushing_store.specs.declared.turn.Deed.TheVariants.{More, Fetch, Data, Positions, Settle}
+use Rattle.flushing_store.specs.declared.turn.Deed.TheVariants.{Fetch, Data, Positions, Settle}
 use Rattle.flushing_store.proofs.WithinLaws.{length_wraps, length_put_at, small_take, small_append, small_getD, small_cons, small_zeros, small_wraps, small_put_at, small_region, small_within}
-use Rattle.flushing_store.proofs.RegionLaws.{length_within, length_region}
+use Rattle.store.proofs.RegionLaws.{length_within, length_region}
 use Rattle.flushing_store.proofs.StepLaws.{start_long}
+use Rattle.std.specs.Prelude.{is_some}
 
 -- PARTS of memory: what is put keeps a part's length, and its numbers small
 as_small : (m : List ℕ) → all_small m ≡ true → small m ≡ true
@@ -328,15 +331,15 @@ module _ (m₀ : List ℕ) where
   unfolding spun_from
   spun_kept zero t h = h
   spun_kept (suc n) t h =
-      by_pick Goes (is_more t.turn.deed) (spun_from n (round t.turn.control t.memory)) t (spun_kept n (round t.turn.control t.memory) (round_kept t.turn.control t.memory h)) h
+      by_pick Goes (is_some t.turn.deed) t (spun_from n (round t.turn.control t.memory)) h (spun_kept n (round t.turn.control t.memory) (round_kept t.turn.control t.memory h))
 
-  performed_kept : (k : Control) (d : Deed) (m : List ℕ) → Kept m₀ m → Keeps (performed k d m)
+  performed_kept : (k : Control) (d : Option Deed) (m : List ℕ) → Kept m₀ m → Keeps (performed k d m)
   unfolding performed
-  performed_kept k More m h = put_kept m k h
-  performed_kept k (Fetch q) m h = put_kept m k h
-  performed_kept k (Data q n) m h = put_kept m k h
-  performed_kept k (Positions q n) m h = put_kept m k h
-  performed_kept k Settle m h = put_kept m k h
+  performed_kept k None m h = put_kept m k h
+  performed_kept k (Some (Fetch q)) m h = put_kept m k h
+  performed_kept k (Some (Data q n)) m h = put_kept m k h
+  performed_kept k (Some (Positions q n)) m h = put_kept m k h
+  performed_kept k (Some Settle) m h = put_kept m k h
 
   merged_kept : (k : Control) (m : List ℕ) → Kept m₀ m → Keeps (merged_on k m)
   unfolding merged_on spun
@@ -394,7 +397,7 @@ module _ (m₀ : List ℕ) where
     unfolding heard got
     heard_kept m (write key s v) h = wrote_kept k u m (version key s false v) h
     heard_kept m (erase key s) h = wrote_kept k u m (version key s true []) h
-    heard_kept m (get key s) h = told_kept k m key s (sought k m key s) h
+    heard_kept m (get key s) h = told_kept k m key s (sought k.base.table m key s) h
     heard_kept m (range a b s) h = h
     heard_kept m (first_key s) h = h
     heard_kept m (last_key s) h = h

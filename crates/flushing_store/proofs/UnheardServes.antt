@@ -4,7 +4,7 @@ use Rattle.value.proofs.TestLaws.{clash}
 use Rattle.store.specs.House.{House, Command, write, erase, get, range, first_key, last_key, count, flush, compact, core}
 use Rattle.store.specs.Promise.{Event, said, refused, World}
 use Rattle.store.specs.Account.{NextStep, leavings, TellsRight, nothing, StopLeaves, undone, Ends, unknown, Serves}
-use Rattle.flushing_store.specs.Acts.{stepped}
+use Rattle.store.specs.Acts.{stepped}
 use Rattle.flushing_store.specs.Control.{control_of}
 use Rattle.flushing_store.specs.Own.{heard, turned, own}
 use Rattle.flushing_store.specs.declared.control.Phase.TheVariants.{Idle}

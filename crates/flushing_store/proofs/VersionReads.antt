@@ -2,7 +2,7 @@
 use Rattle.std.proofs.Common.{◌≡◌, ℕ, Bool, List, take}
 use Rattle.value.specs.Versions.{Version, version}
 use Rattle.memtable.specs.Arena.{key_at, value_at, moment_at, gone_at}
-use Rattle.flushing_store.specs.Acts.{Quiet}
+use Rattle.store.specs.Acts.{Quiet}
 use Rattle.flushing_store.specs.Control.{put_control, to_phase}
 use Rattle.flushing_store.specs.Stage.{version_of, staged_version}
 use Rattle.flushing_store.specs.Write.{accepted, finished}

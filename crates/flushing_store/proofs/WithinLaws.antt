@@ -4,11 +4,8 @@ use Rattle.value.specs.Versions.{every}
 use Rattle.value.specs.Numbers.{put_at}
 use Rattle.value.proofs.TestLaws.{and_left_of, and_right_of, every_append}
 use Rattle.store.specs.Promise.{all_small}
-use Rattle.flushing_store.specs.Control.{wrap, wraps, region, within}
-
-pub within_is : (a n : ℕ) (f : List ℕ → List ℕ) (m x : List ℕ) → x ≡ f (take n (drop a m)) → take a m ++ (x ++ drop n (drop a m)) ≡ within a n f m
-unfolding within region
-within_is a n f m x e = ap (λ z. take a m ++ (z ++ drop n (drop a m))) e
+use Rattle.flushing_store.specs.Control.{wraps}
+use Rattle.store.specs.Regions.{wrap, region, within}
 
 -- LENGTHS
 pub length_wraps : (ws : List ℕ) → length (wraps ws) ≡ length ws

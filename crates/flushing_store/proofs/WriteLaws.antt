@@ -7,18 +7,19 @@ use Rattle.memtable.specs.declared.memtable.Memtable.{Memtable}
 use Rattle.table.specs.Row.{octets}
 use Rattle.table.specs.Lookup.{with_page}
 use Rattle.table.specs.declared.lookup.Lookup.{Lookup}
-use Rattle.flushing_store.specs.Acts.{Quiet}
-use Rattle.flushing_store.specs.Control.{wrap, put_control, to_phase, stage_region, ring_of}
+use Rattle.flushing_store.specs.Control.{put_control, to_phase, stage_region, ring_of}
+use Rattle.store.specs.Regions.{wrap}
 use Rattle.flushing_store.specs.Stage.{staged}
 use Rattle.flushing_store.specs.Look.{extent_of, looked, page_in, asked}
-use Rattle.flushing_store.specs.Write.{key_size, value_size, proper_moment, not_earlier, unwritten, roomy, within_pages, put_in, accepted, sought_below, wrote, finished, written_by, wrote_by, wrote_on}
+use Rattle.flushing_store.specs.Write.{put_in, accepted, sought_below, wrote, finished, written_by, wrote_by, wrote_on}
+use Rattle.store.specs.Checks.{key_size, value_size, proper_moment, not_earlier, unwritten, roomy, within_pages}
 use Rattle.store.specs.declared.told.Told.{Told}
 use Rattle.store.specs.declared.told.Told.TheVariants.{Done, No}
 use Rattle.flushing_store.specs.declared.look.Looked.{Looked}
 use Rattle.flushing_store.specs.declared.look.Looked.TheVariants.{On, Found, Missing}
 use Rattle.flushing_store.specs.declared.control.Phase.TheVariants.{Idle, Writing}
 use Rattle.flushing_store.specs.declared.control.Control.{Control}
-use Rattle.store.specs.Acts.{ActTold}
+use Rattle.store.specs.Acts.{ActTold, Quiet}
 
 -- the checks that are left when the table is known not to have it
 module _ (k : Control) (m : List ℕ) (v : Version) where

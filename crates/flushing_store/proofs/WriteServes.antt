@@ -18,8 +18,9 @@ use Rattle.table.specs.declared.lookup.Lookup.{Lookup}
 use Rattle.store.specs.House.{House, Command, write, erase, a_key, refusal, after, shows, written, written_then, unsafe, full_by, RefusedToo, small_command, core}
 use Rattle.store.specs.Promise.{Event, said, page, refused, Step, World, world}
 use Rattle.store.specs.Account.{Next, NextStep, leavings, TellsRight, StopLeaves, Ends, rejected, no_room, finished, nothing, undone, Serves}
-use Rattle.flushing_store.specs.Acts.{stepped}
-use Rattle.flushing_store.specs.Control.{wrap, base, control_of, put_control, to_phase, stage_region, ring_of}
+use Rattle.store.specs.Acts.{stepped}
+use Rattle.flushing_store.specs.Control.{base, control_of, put_control, to_phase, stage_region, ring_of}
+use Rattle.store.specs.Regions.{wrap}
 use Rattle.flushing_store.specs.Stage.{staged, version_of, staged_version}
 use Rattle.flushing_store.specs.Look.{extent_of, looked, page_in, asked}
 use Rattle.flushing_store.specs.Write.{accepted, begun_write, sought_below, wrote, written_by, wrote_by, wrote_on}

@@ -21,12 +21,15 @@ use Rattle.memtable.proofs.SteadyLaws.{append_keeps, enter_keeps}
 use Rattle.manifest.specs.declared.fields.Manifest.{Manifest}
 use Rattle.store.specs.House.{House, a_key, written_then, write_refusal, written, unsafe, needed, full_by}
 use Rattle.store.specs.Promise.{Step, done, refused}
-use Rattle.flushing_store.specs.Acts.{stepped}
-use Rattle.flushing_store.specs.Control.{memory_words, wrap, base, control, put_control, index_of, arena_of}
-use Rattle.flushing_store.specs.Write.{unwritten, in_arena, in_index, put_in, accepted}
+use Rattle.store.specs.Acts.{stepped}
+use Rattle.flushing_store.specs.Control.{memory_words, base, control, put_control}
+use Rattle.store.specs.Regions.{wrap, index_of, arena_of, in_arena, in_index}
+use Rattle.flushing_store.specs.Write.{put_in, accepted}
+use Rattle.store.specs.Checks.{unwritten}
 use Rattle.flushing_store.specs.declared.control.Phase.TheVariants.{Idle}
 use Rattle.flushing_store.specs.declared.control.Control.{Control}
-use Rattle.flushing_store.proofs.RegionLaws.{length_within, region_same, region_above, region_below, length_region, region_put, length_put, base_put, manifest_put}
+use Rattle.flushing_store.proofs.RegionLaws.{region_put, length_put, base_put, manifest_put}
+use Rattle.store.proofs.RegionLaws.{length_within, region_same, region_above, region_below, length_region}
 use Rattle.store.proofs.RisingLaws.{written_at, write_rises, last_push, kept_all}
 use Rattle.flushing_store.proofs.HeldLaws.{Held, small_base}
 use Rattle.flushing_store.proofs.GotLaws.{rising_back}

@@ -5,7 +5,7 @@
 --   control_of m       the control words, as a struct
 --   put_control m k    the memory with other control words
 --   to_phase k p       another phase, and all else as it was; the like for other parts
-use Rattle.std.specs.Prelude.{ℕ, ◌%◌, List, [], ◌∷◌, ◌++◌, take, drop, ◌==◌, slice_index}
+use Rattle.std.specs.Prelude.{ℕ, List, [], ◌∷◌, ◌==◌, slice_index}
 use Rattle.value.specs.Versions.{pick}
 use Rattle.memtable.specs.Memtable.{memtable}
 use Rattle.memtable.specs.declared.memtable.Memtable.{Memtable}
@@ -22,23 +22,11 @@ use Rattle.flushing_store.specs.declared.control.Phase.TheVariants.{Idle, Shown,
 use Rattle.flushing_store.specs.declared.control.Base.{Base}
 use Rattle.flushing_store.specs.declared.control.Merging.{Merging}
 use Rattle.flushing_store.specs.declared.control.Control.{Control}
+use Rattle.store.specs.Regions.{wrap, region, within}
 
 -- REGIONS
 abbrev pub memory_words : ℕ
 memory_words = 152520
-
-unfoldable pub region : ℕ → ℕ → List ℕ → List ℕ
-region a n m = take n (drop a m)
-
-unfoldable pub within : ℕ → ℕ → (List ℕ → List ℕ) → List ℕ → List ℕ
-within a n f m = take a m ++ (f (region a n m) ++ drop n (drop a m))
-
--- the memtable's index and arena
-abbrev pub index_of : List ℕ → List ℕ
-index_of m = region 64 16384 m
-
-abbrev pub arena_of : List ℕ → List ℕ
-arena_of m = region 16448 131072 m
 
 -- the version that a command under way is about; in a merge the version that was handed over last
 abbrev pub stage_region : List ℕ → List ℕ
@@ -60,10 +48,6 @@ data_of m = region 151512 504 m
 
 abbrev pub entries_of : List ℕ → List ℕ
 entries_of m = region 152016 504 m
-
--- CONTROL WORDS
-abbrev pub wrap : ℕ → ℕ
-wrap n = n % 18446744073709551616
 
 unfoldable pub wraps : List ℕ → List ℕ
 wraps [] = []

@@ -5,7 +5,7 @@
 --   page_merged k m p   a page of the table came
 --   flushed_step k m    a step that is told to flush
 --   last_step, listed_step, committed_step    the last page of positions is put; the list is; it holds
-use Rattle.std.specs.Prelude.{ℕ, zero, suc, min, Bool, true, false, List, ◌==◌}
+use Rattle.std.specs.Prelude.{ℕ, zero, suc, min, List, ◌==◌, Some, None, Option, is_some}
 use Rattle.value.specs.Versions.{pick}
 use Rattle.memtable.specs.Memtable.{none}
 use Rattle.table.specs.Row.{octets}
@@ -17,37 +17,31 @@ use Rattle.table.specs.declared.cursor.Want.TheVariants.{Positions as WantsPosit
 use Rattle.manifest.specs.Manifest.{manifest_page}
 use Rattle.manifest.specs.Places.{slot_of}
 use Rattle.store.specs.Promise.{Step, read, put, settle, done, refused}
-use Rattle.flushing_store.specs.Acts.{stepped}
-use Rattle.flushing_store.specs.Control.{base, merging, control, put_control, to_phase, within, list_of, data_of, entries_of}
+use Rattle.store.specs.Acts.{stepped}
+use Rattle.flushing_store.specs.Control.{base, merging, control, put_control, to_phase, list_of, data_of, entries_of}
+use Rattle.store.specs.Regions.{within}
 use Rattle.flushing_store.specs.Look.{extent_of}
 use Rattle.flushing_store.specs.Target.{next_manifest}
 use Rattle.flushing_store.specs.Round.{Went, went, positions_turn, with_cursor, round}
 use Rattle.flushing_store.specs.declared.control.Phase.TheVariants.{Idle, Merging, Placed, Listed}
 use Rattle.flushing_store.specs.declared.control.Control.{Control}
 use Rattle.flushing_store.specs.declared.turn.Deed.{Deed}
-use Rattle.flushing_store.specs.declared.turn.Deed.TheVariants.{More, Fetch, Data, Positions, Settle}
-
-abbrev pub is_more : Deed → Bool
-is_more More = true
-is_more (Fetch q) = false
-is_more (Data q n) = false
-is_more (Positions q n) = false
-is_more Settle = false
+use Rattle.flushing_store.specs.declared.turn.Deed.TheVariants.{Fetch, Data, Positions, Settle}
 
 -- rounds from where one has come to
 unfoldable pub spun_from : ℕ → Went → Went
 spun_from zero t = t
-spun_from (suc n) t = pick (is_more t.turn.deed) (spun_from n (round t.turn.control t.memory)) t
+spun_from (suc n) t = pick (is_some t.turn.deed) t (spun_from n (round t.turn.control t.memory))
 
 unfoldable pub spun : ℕ → Control → List ℕ → Went
-spun n k m = spun_from n (went k More m)
+spun n k m = spun_from n (went k None m)
 
-unfoldable pub performed : Control → Deed → List ℕ → Step
-performed k More m = stepped (put_control m k) (refused 2)
-performed k (Fetch q) m = stepped (put_control m k) (read q)
-performed k (Data q n) m = stepped (put_control m k) (put q (sealed (octets (min n 504) (data_of m))))
-performed k (Positions q n) m = stepped (put_control m k) (put q (sealed (octets (min n 504) (entries_of m))))
-performed k Settle m = stepped (put_control m k) settle
+unfoldable pub performed : Control → Option Deed → List ℕ → Step
+performed k None m = stepped (put_control m k) (refused 2)
+performed k (Some (Fetch q)) m = stepped (put_control m k) (read q)
+performed k (Some (Data q n)) m = stepped (put_control m k) (put q (sealed (octets (min n 504) (data_of m))))
+performed k (Some (Positions q n)) m = stepped (put_control m k) (put q (sealed (octets (min n 504) (entries_of m))))
+performed k (Some Settle) m = stepped (put_control m k) settle
 
 abbrev pub done_by : Went → Step
 done_by t = performed t.turn.control t.turn.deed t.memory
@@ -63,10 +57,10 @@ unfoldable pub flushed_step : Control → List ℕ → Step
 flushed_step k m = pick (k.base.table.versions == 0) (stepped m done) (merged_on (begun_flush k) m)
 
 abbrev pub page_taken : Control → List ℕ → List ℕ → Want → Went
-page_taken k m p (WantsPositions q) = went (with_cursor k (took_positions k.merging.cursor)) More (within 149698 504 (list_with p) m)
-page_taken k m p (WantsData q) = went (with_cursor k (took_data k.merging.cursor)) More (within 147682 2016 (ring_with k.merging.cursor p) m)
-page_taken k m p Head = went k More m
-page_taken k m p End = went k More m
+page_taken k m p (WantsPositions q) = went (with_cursor k (took_positions k.merging.cursor)) None (within 149698 504 (list_with p) m)
+page_taken k m p (WantsData q) = went (with_cursor k (took_data k.merging.cursor)) None (within 147682 2016 (ring_with k.merging.cursor p) m)
+page_taken k m p Head = went k None m
+page_taken k m p End = went k None m
 
 unfoldable pub page_merged : Control → List ℕ → List ℕ → Went
 page_merged k m p = page_taken k m p (wanted k.merging.cursor (extent_of k.manifest) (list_of m))

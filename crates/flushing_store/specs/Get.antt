@@ -7,24 +7,21 @@ use Rattle.std.specs.Prelude.{ℕ, false, List, [], Some, None, Option, nat_lt}
 use Rattle.value.specs.Versions.{pick, version}
 use Rattle.value.specs.Encoding.{key_at, value_at}
 use Rattle.memtable.specs.Arena.{gone_at, moment_at, key_at as key_in}
-use Rattle.memtable.specs.Memtable.{found}
 use Rattle.table.specs.Row.{octets}
 use Rattle.table.specs.Lookup.{begun, with_page, loaded}
 use Rattle.table.specs.declared.lookup.Lookup.{Lookup}
 use Rattle.store.specs.House.{a_key}
 use Rattle.store.specs.Promise.{Step, tells, done}
-use Rattle.flushing_store.specs.Acts.{stepped}
-use Rattle.flushing_store.specs.Control.{put_control, to_phase, index_of, arena_of, stage_region, ring_of}
+use Rattle.store.specs.Acts.{stepped}
+use Rattle.flushing_store.specs.Control.{put_control, to_phase, stage_region, ring_of}
+use Rattle.store.specs.Regions.{arena_of, sought}
 use Rattle.flushing_store.specs.Stage.{staged}
 use Rattle.flushing_store.specs.Look.{extent_of, looked, page_in, asked}
-use Rattle.flushing_store.specs.Shown.{row_at, row_of}
+use Rattle.store.specs.Shown.{row_at, row_of}
 use Rattle.flushing_store.specs.declared.look.Looked.{Looked}
 use Rattle.flushing_store.specs.declared.look.Looked.TheVariants.{On, Found, Missing}
 use Rattle.flushing_store.specs.declared.control.Phase.TheVariants.{Idle, Shown, Getting}
 use Rattle.flushing_store.specs.declared.control.Control.{Control}
-
-unfoldable pub sought : Control → List ℕ → List ℕ → ℕ → Option ℕ
-sought k m key s = found k.base.table (index_of m) (arena_of m) key s
 
 -- the table is looked through, unless no key there can be this one
 abbrev pub begun_get : Control → List ℕ → List ℕ → ℕ → Option Lookup → Step
@@ -39,7 +36,7 @@ told_of k m key s None = got_below k m key s
 told_of k m key s (Some p) = pick (gone_at (arena_of m) p) (stepped m done) (stepped (put_control m (to_phase k Shown)) (tells (row_at (arena_of m) p)))
 
 unfoldable pub got : Control → List ℕ → List ℕ → ℕ → Step
-got k m key s = told_of k m key s (sought k m key s)
+got k m key s = told_of k m key s (sought k.base.table m key s)
 
 -- what the table has
 unfoldable pub shown_by : Control → List ℕ → Lookup → List ℕ → Looked → Step

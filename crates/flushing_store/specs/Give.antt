@@ -4,7 +4,7 @@
 --   ended_block w m     the memory with the entry of the block being written on the page of positions
 --   in_hand bs m        the memory with these bytes in the writer's hand
 --   given_writer, given_memory     writer and memory when v was handed over; none, and the same, where v is outside the limits
-use Rattle.std.specs.Prelude.{ℕ, Bool, List, [], ◌++◌, length, Some, None, Option, ◌==◌}
+use Rattle.std.specs.Prelude.{ℕ, Bool, List, [], ◌++◌, Some, None, Option, ◌==◌}
 use Rattle.value.specs.Versions.{pick, same, Version, version}
 use Rattle.value.specs.Numbers.{bytes_of}
 use Rattle.value.specs.Encoding.{in_limits, encoding, encoded_length}
@@ -13,7 +13,8 @@ use Rattle.table.specs.Blocks.{no_bound}
 use Rattle.table.specs.Layout.{entry}
 use Rattle.table.specs.Writing.{begins, gave}
 use Rattle.table.specs.declared.writer.Writer.{Writer}
-use Rattle.flushing_store.specs.Control.{within, stage_region}
+use Rattle.flushing_store.specs.Control.{stage_region}
+use Rattle.store.specs.Regions.{within}
 use Rattle.flushing_store.specs.Octets.{put_octets}
 use Rattle.flushing_store.specs.Stage.{staged}
 
@@ -22,9 +23,6 @@ bound_after n m k = pick (n == 0) no_bound (pick (same (key_at (stage_region m) 
 
 abbrev pub brought : Bool → ℕ → Version → List ℕ
 brought b s v = pick b (bytes_of 8 s ++ encoding v) (encoding v)
-
-abbrev pub brought_length : Bool → Version → Option ℕ
-brought_length b v = pick (in_limits v) (Some (length (brought b 0 v))) None
 
 unfoldable pub ended_block : Writer → List ℕ → List ℕ
 ended_block w m = pick (w.block.count == 0) m (within 152016 504 (put_octets w.positions.fill (entry w.block.begin w.block.used)) m)

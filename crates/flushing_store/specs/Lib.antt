@@ -1,9 +1,7 @@
-pub mod Acts
 pub mod Control
 pub mod Octets
 pub mod Stage
 pub mod Look
-pub mod Shown
 pub mod Power
 pub mod Write
 pub mod Get
@@ -12,4 +10,3 @@ pub mod Target
 pub mod Round
 pub mod Flush
 pub mod Own
-pub mod Entry

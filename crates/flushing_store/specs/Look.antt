@@ -13,8 +13,9 @@ use Rattle.table.specs.declared.lookup.Stage.{Stage}
 use Rattle.table.specs.declared.lookup.Stage.TheVariants.{Entry, Head, Block}
 use Rattle.manifest.specs.declared.fields.Manifest.{Manifest}
 use Rattle.store.specs.Promise.{Step, read, refused}
-use Rattle.flushing_store.specs.Acts.{stepped}
-use Rattle.flushing_store.specs.Control.{within, put_control, with_lookup}
+use Rattle.store.specs.Acts.{stepped}
+use Rattle.flushing_store.specs.Control.{put_control, with_lookup}
+use Rattle.store.specs.Regions.{within}
 use Rattle.flushing_store.specs.declared.control.Control.{Control}
 use Rattle.flushing_store.specs.declared.look.Looked.{Looked}
 use Rattle.flushing_store.specs.declared.look.Looked.TheVariants.{On, Found, Missing}

@@ -8,7 +8,7 @@ use Rattle.value.specs.Versions.{pick, version}
 use Rattle.table.specs.Row.{octets}
 use Rattle.store.specs.House.{Command, write, erase, get, range, first_key, last_key, count, flush, compact, core}
 use Rattle.store.specs.Promise.{Engine, Event, on, said, page, next, Step, settle, done, refused, Whole}
-use Rattle.flushing_store.specs.Acts.{stepped}
+use Rattle.store.specs.Acts.{stepped}
 use Rattle.flushing_store.specs.Control.{memory_words, control_of, put_control, to_phase}
 use Rattle.flushing_store.specs.Power.{powered, first_listed, second_listed}
 use Rattle.flushing_store.specs.Write.{wrote, wrote_on}

@@ -8,7 +8,7 @@ use Rattle.manifest.specs.Manifest.{manifest_in, is_whole}
 use Rattle.manifest.specs.Commit.{found_in, later_of}
 use Rattle.manifest.specs.declared.fields.Manifest.{Manifest}
 use Rattle.store.specs.Promise.{Step, read, done}
-use Rattle.flushing_store.specs.Acts.{stepped}
+use Rattle.store.specs.Acts.{stepped}
 use Rattle.flushing_store.specs.Control.{base, control, put_control}
 use Rattle.flushing_store.specs.declared.control.Phase.{Phase}
 use Rattle.flushing_store.specs.declared.control.Phase.TheVariants.{Idle, FirstList, AfterWhole, AfterTorn}

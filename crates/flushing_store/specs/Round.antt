@@ -1,5 +1,6 @@
 -- A merge of the table with what is in memory, a round at a time. A round leaves a turn, the control state and what it wants done, and memory.
---   settled_turn, data_turn, positions_turn    enough pages wait; the page of data, or of positions, is put
+--   settled_turn             enough pages wait
+--   put_turn                 a page is put: of data (data_turn), or of positions (positions_turn)
 --   took_turn, took_bytes    bytes in hand go to the page of data
 --   memory_head, leads       the head of what is in memory; does it come before the table's?
 --   memory_turn, table_turn  the one or the other is handed over
@@ -21,7 +22,8 @@ use Rattle.table.specs.declared.cursor.Want.TheVariants.{Positions as WantsPosit
 use Rattle.table.specs.declared.writer.Writer.{Writer}
 use Rattle.table.specs.declared.writer.Due.{Due}
 use Rattle.table.specs.declared.writer.Due.TheVariants.{Data as DataDue, Positions as PositionsDue, Take, Next}
-use Rattle.flushing_store.specs.Control.{wrap, merging, with_merging, to_phase, within, index_of, arena_of, ring_of, list_of, hand_of}
+use Rattle.flushing_store.specs.Control.{merging, with_merging, to_phase, ring_of, list_of, hand_of}
+use Rattle.store.specs.Regions.{wrap, within, index_of, arena_of}
 use Rattle.flushing_store.specs.Octets.{put_octets}
 use Rattle.flushing_store.specs.Stage.{version_of}
 use Rattle.flushing_store.specs.Look.{extent_of}
@@ -30,17 +32,17 @@ use Rattle.flushing_store.specs.Target.{new_start, new_data}
 use Rattle.flushing_store.specs.declared.control.Phase.TheVariants.{Closed, Placed}
 use Rattle.flushing_store.specs.declared.control.Control.{Control}
 use Rattle.flushing_store.specs.declared.turn.Deed.{Deed}
-use Rattle.flushing_store.specs.declared.turn.Deed.TheVariants.{More, Fetch, Data, Positions, Settle}
+use Rattle.flushing_store.specs.declared.turn.Deed.TheVariants.{Fetch, Data, Positions, Settle}
 use Rattle.flushing_store.specs.declared.turn.Turn.{Turn}
 
 pub record Went : Type 0 where
   pub turn : Turn
   pub memory : List ℕ
 
-abbrev pub a_turn : Control → Deed → Turn
+abbrev pub a_turn : Control → Option Deed → Turn
 a_turn k d = record { control = k; deed = d }
 
-abbrev pub went : Control → Deed → List ℕ → Went
+abbrev pub went : Control → Option Deed → List ℕ → Went
 went k d m = record { turn = a_turn k d; memory = m }
 
 abbrev pub with_writer : Control → Writer → Control
@@ -48,24 +50,23 @@ with_writer k w = with_merging k (merging k.merging.cursor w k.merging.walked k.
 
 -- PAGES
 abbrev pub settled_turn : Control → Turn
-settled_turn k = a_turn (with_merging k (merging k.merging.cursor k.merging.writer k.merging.walked 0)) Settle
+settled_turn k = a_turn (with_merging k (merging k.merging.cursor k.merging.writer k.merging.walked 0)) (Some Settle)
+
+abbrev pub put_turn : Control → Writer → Deed → Turn
+put_turn k w d = a_turn (with_merging k (merging k.merging.cursor w k.merging.walked (wrap (k.merging.waiting + 1)))) (Some d)
 
 abbrev pub data_turn : Control → Turn
-data_turn k =
-    a_turn (with_merging k (merging k.merging.cursor (put_data k.merging.writer) k.merging.walked (wrap (k.merging.waiting + 1))))
-    (Data (wrap (new_data k + k.merging.writer.stream.put)) k.merging.writer.stream.fill)
+data_turn k = put_turn k (put_data k.merging.writer) (Data (wrap (new_data k + k.merging.writer.stream.put)) k.merging.writer.stream.fill)
 
 abbrev pub positions_turn : Control → Turn
-positions_turn k =
-    a_turn (with_merging k (merging k.merging.cursor (put_positions k.merging.writer) k.merging.walked (wrap (k.merging.waiting + 1))))
-    (Positions (wrap (new_start k + k.merging.writer.positions.put)) k.merging.writer.positions.fill)
+positions_turn k = put_turn k (put_positions k.merging.writer) (Positions (wrap (new_start k + k.merging.writer.positions.put)) k.merging.writer.positions.fill)
 
 -- BYTES
 unfoldable pub took_bytes : ℕ → ℕ → ℕ → List ℕ → List ℕ
 took_bytes taken fill n m = within 151512 504 (put_octets fill (octets (min n 504) (drop (min taken 1310) (hand_of m)))) m
 
 abbrev pub took_turn : Control → ℕ → Turn
-took_turn k n = a_turn (with_writer k (took k.merging.writer n)) More
+took_turn k n = a_turn (with_writer k (took k.merging.writer n)) None
 
 -- VERSIONS
 abbrev pub memory_head : Control → List ℕ → Option ℕ
@@ -75,8 +76,8 @@ unfoldable pub leads : List ℕ → ℕ → List ℕ → Place → Bool
 leads m at block p = by_choice (chosen (Some (key_in (arena_of m) at)) (Some (key_at block p))) true false false
 
 abbrev pub handed_turn : Control → Control → Option Writer → Turn
-handed_turn k k₁ None = a_turn k More
-handed_turn k k₁ (Some w) = a_turn (with_writer k₁ w) More
+handed_turn k k₁ None = a_turn k None
+handed_turn k k₁ (Some w) = a_turn (with_writer k₁ w) None
 
 abbrev pub walked_on : Control → Control
 walked_on k = with_merging k (merging k.merging.cursor k.merging.writer (wrap (k.merging.walked + 1)) k.merging.waiting)
@@ -123,8 +124,8 @@ unfoldable pub block_turn : Control → List ℕ → Went
 block_turn k m = head_turn k m (block_in k m) (head_place k.merging.cursor (block_in k m))
 
 abbrev pub wanted_turn : Control → List ℕ → Want → Went
-wanted_turn k m (WantsPositions q) = went k (Fetch q) m
-wanted_turn k m (WantsData q) = went k (Fetch q) m
+wanted_turn k m (WantsPositions q) = went k (Some (Fetch q)) m
+wanted_turn k m (WantsData q) = went k (Some (Fetch q)) m
 wanted_turn k m Head = block_turn k m
 wanted_turn k m End = head_turn k m [] None
 

@@ -4,7 +4,8 @@
 use Rattle.std.specs.Prelude.{ℕ, List, take}
 use Rattle.value.specs.Versions.{Version, version}
 use Rattle.memtable.specs.Arena.{appended, key_at, value_at, moment_at, gone_at}
-use Rattle.flushing_store.specs.Control.{within, stage_region}
+use Rattle.flushing_store.specs.Control.{stage_region}
+use Rattle.store.specs.Regions.{within}
 
 unfoldable pub staged : Version → List ℕ → List ℕ
 staged v m = within 147520 162 (λ x. appended x 0 v) m

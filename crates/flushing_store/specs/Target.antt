@@ -8,7 +8,7 @@ use Rattle.std.specs.Prelude.{ℕ, ◌+◌, true}
 use Rattle.table.specs.Sizes.{position_pages}
 use Rattle.manifest.specs.Places.{half_start, other}
 use Rattle.manifest.specs.declared.fields.Manifest.{Manifest}
-use Rattle.flushing_store.specs.Control.{wrap}
+use Rattle.store.specs.Regions.{wrap}
 use Rattle.flushing_store.specs.declared.control.Control.{Control}
 
 abbrev pub new_weight : Control → ℕ

@@ -5,58 +5,24 @@
 --   accepted k m v      the same, where the table is known not to have its key at its moment
 --   wrote_on k m p      a page came that tells whether it has
 --   wrote_by k m l      all pages came that the lookup wanted
-use Rattle.std.specs.Prelude.{ℕ, ◌+◌, ◌*◌, List, length, Some, None, Option, ◌==◌, nat_le, nat_lt}
+use Rattle.std.specs.Prelude.{ℕ, ◌+◌, List, length, Some, None, Option, ◌==◌, nat_lt}
 use Rattle.value.specs.Versions.{pick, Version, version}
-use Rattle.memtable.specs.Arena.{appended, key_at, moment_at}
-use Rattle.memtable.specs.Index.{entered}
-use Rattle.memtable.specs.Memtable.{accepts, one_more, seek_place, written_at}
+use Rattle.memtable.specs.Arena.{key_at, moment_at}
 use Rattle.memtable.specs.declared.memtable.Memtable.{Memtable}
 use Rattle.table.specs.Row.{octets}
 use Rattle.table.specs.Lookup.{begun, with_page}
 use Rattle.table.specs.declared.lookup.Lookup.{Lookup}
-use Rattle.store.specs.House.{a_key}
 use Rattle.store.specs.Promise.{Step, done, refused}
-use Rattle.flushing_store.specs.Acts.{stepped}
-use Rattle.flushing_store.specs.Control.{wrap, base, control, put_control, to_phase, within, index_of, arena_of, stage_region, ring_of}
+use Rattle.store.specs.Acts.{stepped}
+use Rattle.flushing_store.specs.Control.{base, control, put_control, to_phase, stage_region, ring_of}
+use Rattle.store.specs.Regions.{wrap, in_arena, in_index}
 use Rattle.flushing_store.specs.Stage.{staged, staged_version}
 use Rattle.flushing_store.specs.Look.{extent_of, looked, page_in, asked}
 use Rattle.flushing_store.specs.declared.look.Looked.{Looked}
 use Rattle.flushing_store.specs.declared.look.Looked.TheVariants.{On, Found, Missing}
 use Rattle.flushing_store.specs.declared.control.Phase.TheVariants.{Idle, Writing}
 use Rattle.flushing_store.specs.declared.control.Control.{Control}
-
-abbrev pub checked : {A : Type 0} → Option A → ℕ → List ℕ → (A → Step) → Step
-checked None r m f = stepped m (refused r)
-checked (Some x) r m f = f x
-
-abbrev pub key_size : List ℕ → Option ℕ
-key_size k = pick (a_key k) (Some (length k)) None
-
-abbrev pub value_size : List ℕ → Option ℕ
-value_size v = pick (nat_le (length v) 1024) (Some (length v)) None
-
-abbrev pub proper_moment : ℕ → Option ℕ
-proper_moment m = pick (nat_lt m 9223372036854775808) (Some m) None
-
-abbrev pub not_earlier : ℕ → ℕ → Option ℕ
-not_earlier last m = pick (nat_lt m last) None (Some m)
-
--- where the version goes in the index, if its key was not written at this moment, as far as memory knows
-unfoldable pub unwritten : Memtable → List ℕ → List ℕ → ℕ → Option ℕ
-unwritten t m k s = pick (written_at t (index_of m) (arena_of m) k s) None (Some (seek_place t (index_of m) (arena_of m) k s))
-
--- the memtable with the version, if what is not safe does not weigh too much then
-abbrev pub roomy : Memtable → ℕ → ℕ → Option Memtable
-roomy t k v = pick (accepts t 16384 131072 k v) (Some (one_more t k v)) None
-
-abbrev pub within_pages : ℕ → ℕ → Option ℕ
-within_pages pages w = pick (nat_lt (128 * pages) w) None (Some w)
-
-unfoldable pub in_arena : ℕ → Version → List ℕ → List ℕ
-in_arena used v m = within 16448 131072 (λ x. appended x used v) m
-
-unfoldable pub in_index : Memtable → ℕ → List ℕ → List ℕ
-in_index t place m = within 64 16384 (λ x. entered x t.versions place t.used) m
+use Rattle.store.specs.Checks.{checked, key_size, value_size, proper_moment, not_earlier, unwritten, roomy, within_pages}
 
 unfoldable pub put_in : Control → ℕ → Memtable → Version → List ℕ → List ℕ
 put_in k place t v m =

@@ -3,35 +3,56 @@ use manifest::Manifest;
 use memtable::Memtable;
 use table::{Cursor, Lookup, Writer};
 
+// How many numbers the machine's memory has.
+pub const MEMORY: usize = 152520;
+
+// Behind the memtable's arena lie the version that a command under way is about,
+pub const STAGE: usize = 147520;
+
+// the pages of data that were read,
+pub const RING: usize = 147682;
+
+// the page of positions that was read,
+pub const LIST: usize = 149698;
+
+// the bytes in a writer's hand,
+pub const HAND: usize = 150202;
+
+// its page of data,
+pub const DATA: usize = 151512;
+
+// and its page of positions.
+pub const ENTRIES: usize = 152016;
+
 // What is under way between two events.
 #[derive(Clone, Copy)]
 pub enum Phase {
     // Nothing: a command may come.
-    Idle,
+    Idle = 0,
     // The row that a get shows was told.
-    Shown,
+    Shown = 1,
     // Power is there, and page 0 was asked for.
-    FirstList,
+    FirstList = 2,
     // So was page 1; the list on page 0 is whole.
-    AfterWhole,
+    AfterWhole = 3,
     // The same, but the list on page 0 is torn.
-    AfterTorn,
+    AfterTorn = 4,
     // The table is looked through for a get.
-    Getting,
+    Getting = 5,
     // The same for a write, whose key may have been written at its moment.
-    Writing,
+    Writing = 6,
     // Table and memory are merged into the free half.
-    Merging,
+    Merging = 7,
     // The last page of data was put.
-    Closed,
+    Closed = 8,
     // The last page of positions was put.
-    Placed,
+    Placed = 9,
     // The new table is settled.
-    Settled,
+    Settled = 10,
     // The new list was put.
-    Listed,
+    Listed = 11,
     // It is settled.
-    Committed,
+    Committed = 12,
 }
 
 // The number of pages, the moment of the last write, and what is in memory.

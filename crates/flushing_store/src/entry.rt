@@ -1,36 +1,21 @@
 // One step of the machine, as the world outside calls it: events by number, acts by an enum and a lent row.
 ghost use Rattle.std.specs.Prelude.{◌≡◌, ◌≤◌, length};
-ghost use Rattle.flushing_store.specs.Acts.{Does};
-ghost use Rattle.flushing_store.specs.Own.{went_on, paged, turned};
-ghost use Rattle.store.specs.Entry.{event_of};
-ghost use Rattle.flushing_store.specs.Entry.{StepSays, step_fits};
+ghost use Rattle.store.specs.Acts.{Does};
+ghost use Rattle.flushing_store.specs.Own.{went_on, paged, turned, own};
+ghost use Rattle.store.specs.Event.{meaning};
+ghost use Rattle.store.specs.Entry.{StepSays, step_fits};
 
-use crate::control::{Control, Phase};
+use crate::control::{Control, MEMORY, Phase};
 use crate::flush::{commit, flush, merge_on, merge_page, put_last, put_new_list};
 use crate::get::{get, get_on};
-use crate::octets::cut_into;
 use crate::power::{first_list, power, second_list};
 use crate::words::{load, turn_to};
 use crate::write::{write, write_on};
-use store::Told;
-
-// How many numbers the machine's memory has.
-pub const MEMORY: usize = 152520;
-
-// Are the rows of the lengths that a step takes?
-fn fits(memory: &[u64], kind: u64, one: &[u8], two: &[u8], out: &[u64]) -> bool
-    ensures { result ≡ step_fits memory.now kind one.now two.now out.now }
-{
-    memory.len() == MEMORY
-        && kind <= 12
-        && one.len() <= 4096
-        && two.len() <= 4096
-        && out.len() >= 1280
-}
+use store::{Event, ROW, Refusal, Told};
+use value::{Version, padded};
 
 // Goes on with what is under way.
-fn go_on(memory: &mut [u64], control: Control, out: &mut [u64]) -> Told
-    requires { (length memory.old ≡ 152520) × (1280 ≤ length out.old) }
+fn go_on(memory: &mut [u64; MEMORY], control: Control, out: &mut [u64; ROW]) -> Told
     ensures { Does (went_on control memory.old control.base.phase) result out.old memory.new out.new }
 {
     match control.base.phase {
@@ -50,17 +35,20 @@ fn go_on(memory: &mut [u64], control: Control, out: &mut [u64]) -> Told
             Told::Settle
         }
         Phase::Committed => commit(memory, control),
-        _ => Told::No(2),
+        _ => Told::No(Refusal::Unknown as u64),
     }
 }
 
 // A page came that was asked for.
-fn take_page(memory: &mut [u64], control: Control, bytes: &[u8], out: &mut [u64]) -> Told
-    requires { (length memory.old ≡ 152520) × (1280 ≤ length out.old) }
+fn take_page(
+    memory: &mut [u64; MEMORY],
+    control: Control,
+    bytes: &[u8],
+    out: &mut [u64; ROW],
+) -> Told
     ensures { Does (paged control memory.old bytes.now control.base.phase) result out.old memory.new out.new }
 {
-    let mut page = [0u8; 512];
-    cut_into(bytes, &mut page);
+    let page = padded::<512>(bytes);
     match control.base.phase {
         Phase::FirstList => first_list(memory, control, &page),
         Phase::AfterWhole => second_list(memory, control, true, &page),
@@ -68,40 +56,61 @@ fn take_page(memory: &mut [u64], control: Control, bytes: &[u8], out: &mut [u64]
         Phase::Getting => get_on(memory, control, &page, out),
         Phase::Writing => write_on(memory, control, &page),
         Phase::Merging => merge_page(memory, control, &page, out),
-        _ => Told::No(2),
+        _ => Told::No(Refusal::Unknown as u64),
     }
 }
 
 fn take_turn(
-    memory: &mut [u64],
+    memory: &mut [u64; MEMORY],
     control: Control,
-    kind: u64,
-    n: u64,
-    one: &[u8],
-    two: &[u8],
-    out: &mut [u64],
+    event: Event<'_>,
+    out: &mut [u64; ROW],
 ) -> Told
-    requires { (length memory.old ≡ 152520) × ((1280 ≤ length out.old) × (kind ≤ 12)) }
-    ensures { Does (turned control memory.old (event_of kind n one.now two.now)) result out.old memory.new out.new }
+    ensures whole { length out.new ≡ length out.old }
+    ensures says { Does (turned control memory.old (meaning event.entry)) result out.old memory.new out.new }
 {
-    match kind {
-        0 => power(memory, control, n),
-        1 => write(memory, control, one, n, false, two),
-        2 => write(memory, control, one, n, true, &[]),
-        3 => get(memory, control, one, n, out),
-        9 => flush(memory, control, out),
-        11 => take_page(memory, control, two, out),
-        12 => go_on(memory, control, out),
-        _ => Told::No(2),
+    match event {
+        Event::On(pages) => power(memory, control, pages),
+        Event::Write(key, moment, value) => write(
+            memory,
+            control,
+            Version {
+                key,
+                moment,
+                gone: false,
+                value,
+            },
+        ),
+        Event::Erase(key, moment) => write(
+            memory,
+            control,
+            Version {
+                key,
+                moment,
+                gone: true,
+                value: &[],
+            },
+        ),
+        Event::Get(key, moment) => get(memory, control, key, moment, out),
+        Event::Flush => flush(memory, control, out),
+        Event::Page(bytes) => take_page(memory, control, bytes, out),
+        Event::Next => go_on(memory, control, out),
+        _ => Told::No(Refusal::Unknown as u64),
     }
 }
 
 pub fn step(memory: &mut [u64], kind: u64, n: u64, one: &[u8], two: &[u8], out: &mut [u64]) -> Told
-    ensures { StepSays memory.old kind n one.now two.now out.old (step_fits memory.old kind one.now two.now out.old) result memory.new out.new }
+    ensures { StepSays own memory.old kind n one.now two.now out.old (step_fits own memory.old kind one.now two.now out.old) result memory.new out.new }
 {
-    if !fits(memory, kind, one, two, out) {
-        return Told::No(0);
-    }
+    let Some(memory) = memory.as_mut_array::<MEMORY>() else {
+        return Told::No(Refusal::Misfit as u64);
+    };
+    let Some(out) = out.first_chunk_mut::<ROW>() else {
+        return Told::No(Refusal::Misfit as u64);
+    };
+    let Some(event) = Event::numbered(kind, n, one, two) else {
+        return Told::No(Refusal::Misfit as u64);
+    };
     let control = load(memory);
-    take_turn(memory, control, kind, n, one, two, out)
+    take_turn(memory, control, event, out)
 }

@@ -1,9 +1,9 @@
 // Flushing: table and memory are merged into the free half, a page at a time; the new table is settled, the list that names it is put and settled, and memory is emptied.
 ghost use Rattle.std.specs.Prelude.{◌≡◌, ◌≤◌, length};
-ghost use Rattle.flushing_store.specs.Acts.{Does, Quiet};
-ghost use Rattle.flushing_store.specs.Flush.{is_more, spun, performed, flushed_step, page_merged, merged_on, last_step, listed_step, committed_step};
+ghost use Rattle.store.specs.Acts.{Does, Quiet};
+ghost use Rattle.flushing_store.specs.Flush.{spun, performed, flushed_step, page_merged, merged_on, last_step, listed_step, committed_step};
 
-use crate::control::{Base, Control, Merging, Phase};
+use crate::control::{Base, Control, DATA, ENTRIES, HAND, LIST, MEMORY, Merging, Phase, RING};
 use crate::look::extent_of;
 use crate::put::{put_list, put_page};
 use crate::round::{put_positions, round};
@@ -12,30 +12,20 @@ use crate::turn::{Deed, Turn};
 use crate::words::save;
 use manifest::slot;
 use memtable::empty;
-use store::Told;
+use store::{ROW, Refusal, Told};
 use table::{Cursor, Want, Writer};
 
-fn is_more(deed: Deed) -> bool
-    ensures { result ≡ is_more deed }
-{
-    match deed {
-        Deed::More => true,
-        _ => false,
-    }
-}
-
 // Rounds until something is to be done: at most 1,010 fill a page.
-fn spin(memory: &mut [u64], control: Control) -> Turn
-    requires { length memory.old ≡ 152520 }
+fn spin(memory: &mut [u64; MEMORY], control: Control) -> Turn
     ensures turn { result ≡ (spun 1024 control memory.old).turn }
     ensures memory { memory.new ≡ (spun 1024 control memory.old).memory }
 {
     let mut turn = Turn {
         control,
-        deed: Deed::More,
+        deed: None,
     };
     'rounds: for i in 0..1024usize {
-        if !is_more(turn.deed) {
+        if turn.deed.is_some() {
             break 'rounds;
         }
         turn = round(memory, turn.control);
@@ -44,38 +34,35 @@ fn spin(memory: &mut [u64], control: Control) -> Turn
 }
 
 // Does what a turn wants done.
-fn perform(memory: &mut [u64], turn: Turn, out: &mut [u64]) -> Told
-    requires { (length memory.old ≡ 152520) × (1280 ≤ length out.old) }
+fn perform(memory: &mut [u64; MEMORY], turn: Turn, out: &mut [u64; ROW]) -> Told
     ensures { Does (performed turn.control turn.deed memory.old) result out.old memory.new out.new }
 {
     let told = match turn.deed {
-        Deed::More => Told::No(2),
-        Deed::Fetch(page) => Told::Read(page),
-        Deed::Data(page, n) => {
-            put_page(&memory[151512..152016], n, out);
+        None => Told::No(Refusal::Unknown as u64),
+        Some(Deed::Fetch(page)) => Told::Read(page),
+        Some(Deed::Data(page, n)) => {
+            put_page(&memory[DATA..ENTRIES], n, out);
             Told::Put(page)
         }
-        Deed::Positions(page, n) => {
-            put_page(&memory[152016..152520], n, out);
+        Some(Deed::Positions(page, n)) => {
+            put_page(&memory[ENTRIES..MEMORY], n, out);
             Told::Put(page)
         }
-        Deed::Settle => Told::Settle,
+        Some(Deed::Settle) => Told::Settle,
     };
     save(memory, turn.control);
     told
 }
 
 // Goes on with the merge.
-pub fn merge_on(memory: &mut [u64], control: Control, out: &mut [u64]) -> Told
-    requires { (length memory.old ≡ 152520) × (1280 ≤ length out.old) }
+pub fn merge_on(memory: &mut [u64; MEMORY], control: Control, out: &mut [u64; ROW]) -> Told
     ensures { Does (merged_on control memory.old) result out.old memory.new out.new }
 {
     let turn = spin(memory, control);
     perform(memory, turn, out)
 }
 
-pub fn flush(memory: &mut [u64], control: Control, out: &mut [u64]) -> Told
-    requires { (length memory.old ≡ 152520) × (1280 ≤ length out.old) }
+pub fn flush(memory: &mut [u64; MEMORY], control: Control, out: &mut [u64; ROW]) -> Told
     ensures { Does (flushed_step control memory.old) result out.old memory.new out.new }
 {
     if control.base.table.versions == 0 {
@@ -103,15 +90,14 @@ pub fn flush(memory: &mut [u64], control: Control, out: &mut [u64]) -> Told
 }
 
 // A page of the table came.
-fn take_table_page(memory: &mut [u64], control: Control, page: &[u8]) -> Control
-    requires { length memory.old ≡ 152520 }
+fn take_table_page(memory: &mut [u64; MEMORY], control: Control, page: &[u8]) -> Control
     ensures state { result ≡ (page_merged control memory.old page.now).turn.control }
     ensures memory { memory.new ≡ (page_merged control memory.old page.now).memory }
 {
     let cursor = control.merging.cursor;
-    let cursor = match cursor.wants(extent_of(control.manifest), &memory[149698..150202]) {
-        Want::Positions(_) => cursor.take_positions(page, &mut memory[149698..150202]),
-        Want::Data(_) => cursor.take_data(page, &mut memory[147682..149698]),
+    let cursor = match cursor.wants(extent_of(control.manifest), &memory[LIST..HAND]) {
+        Want::Positions(_) => cursor.take_positions(page, &mut memory[LIST..HAND]),
+        Want::Data(_) => cursor.take_data(page, &mut memory[RING..LIST]),
         Want::Head => cursor,
         Want::End => cursor,
     };
@@ -123,8 +109,12 @@ fn take_table_page(memory: &mut [u64], control: Control, page: &[u8]) -> Control
 }
 
 // The same, and the merge goes on.
-pub fn merge_page(memory: &mut [u64], control: Control, page: &[u8], out: &mut [u64]) -> Told
-    requires { (length memory.old ≡ 152520) × (1280 ≤ length out.old) }
+pub fn merge_page(
+    memory: &mut [u64; MEMORY],
+    control: Control,
+    page: &[u8],
+    out: &mut [u64; ROW],
+) -> Told
     ensures { Does (merged_on (page_merged control memory.old page.now).turn.control (page_merged control memory.old page.now).memory) result out.old memory.new out.new }
 {
     let control = take_table_page(memory, control, page);
@@ -132,8 +122,7 @@ pub fn merge_page(memory: &mut [u64], control: Control, page: &[u8], out: &mut [
 }
 
 // The last page of data was put: the last page of positions is.
-pub fn put_last(memory: &mut [u64], control: Control, out: &mut [u64]) -> Told
-    requires { (length memory.old ≡ 152520) × (1280 ≤ length out.old) }
+pub fn put_last(memory: &mut [u64; MEMORY], control: Control, out: &mut [u64; ROW]) -> Told
     ensures { Does (last_step control memory.old) result out.old memory.new out.new }
 {
     let base = Base {
@@ -144,8 +133,7 @@ pub fn put_last(memory: &mut [u64], control: Control, out: &mut [u64]) -> Told
 }
 
 // The new table is settled: the list that names it is put.
-pub fn put_new_list(memory: &mut [u64], control: Control, out: &mut [u64]) -> Told
-    requires { (length memory.old ≡ 152520) × (1280 ≤ length out.old) }
+pub fn put_new_list(memory: &mut [u64; MEMORY], control: Control, out: &mut [u64; ROW]) -> Told
     ensures { Does (listed_step control memory.old) result out.old memory.new out.new }
 {
     let list = next_list(control);
@@ -159,8 +147,7 @@ pub fn put_new_list(memory: &mut [u64], control: Control, out: &mut [u64]) -> To
 }
 
 // The new list is settled: it holds from now on, and nothing is in memory that is not safe.
-pub fn commit(memory: &mut [u64], control: Control) -> Told
-    requires { length memory.old ≡ 152520 }
+pub fn commit(memory: &mut [u64; MEMORY], control: Control) -> Told
     ensures { Quiet (committed_step control memory.old) result memory.new }
 {
     let base = Base {

@@ -1,31 +1,20 @@
 // Getting: what is seen of a key at a moment, looked up in memory, and where that does not decide in the table; told as one row.
 ghost use Rattle.std.specs.Prelude.{◌≡◌, ◌<◌, ◌≤◌, ◌++◌, length};
-ghost use Rattle.flushing_store.specs.Acts.{Does, Quiet};
-ghost use Rattle.flushing_store.specs.Get.{sought, got, got_below, got_by, got_on};
+ghost use Rattle.store.specs.Acts.{Does, Quiet};
+ghost use Rattle.flushing_store.specs.Get.{got, got_below, got_by, got_on};
+ghost use Rattle.store.specs.Regions.{sought};
 
-use crate::control::{Base, Control, Phase};
+use crate::control::{Base, Control, LIST, MEMORY, Phase, RING, STAGE};
 use crate::look::{Looked, ask, extent_of, look_staged, take_page};
-use crate::shown::{write_place, write_row};
 use crate::stage::stage;
 use crate::words::turn_to;
 use memtable::{is_gone, moment_at};
-use store::Told;
+use store::{ARENA, ARENA_END, ROW, Told, find, write_row, write_shown};
 use table::{Lookup, begin, read_octets};
-
-// The place in the arena of the version that a reading wants.
-fn find(memory: &[u64], control: Control, key: &[u8], moment: u64) -> Option<u64>
-    requires { length memory.now ≡ 152520 }
-    ensures { result ≡ sought control memory.now key.now moment }
-{
-    control
-        .base
-        .table
-        .find(&memory[64..16448], &memory[16448..147520], key, moment)
-}
+use value::{Version, key_of, value_of};
 
 // Memory does not decide: the table is looked through, unless no key there can be this one.
-fn get_below(memory: &mut [u64], control: Control, key: &[u8], moment: u64) -> Told
-    requires { length memory.old ≡ 152520 }
+fn get_below(memory: &mut [u64; MEMORY], control: Control, key: &[u8], moment: u64) -> Told
     ensures { Quiet (got_below control memory.old key.now moment) result memory.new }
 {
     if key.len() < 1 || key.len() > 255 {
@@ -34,7 +23,15 @@ fn get_below(memory: &mut [u64], control: Control, key: &[u8], moment: u64) -> T
     let Some(lookup) = begin(extent_of(control.manifest)) else {
         return Told::Done;
     };
-    stage(memory, key, moment, false, &[]);
+    stage(
+        memory,
+        Version {
+            key,
+            moment,
+            gone: false,
+            value: &[],
+        },
+    );
     let base = Base {
         phase: Phase::Getting,
         ..control.base
@@ -42,29 +39,38 @@ fn get_below(memory: &mut [u64], control: Control, key: &[u8], moment: u64) -> T
     ask(memory, Control { base, ..control }, lookup)
 }
 
-pub fn get(memory: &mut [u64], control: Control, key: &[u8], moment: u64, out: &mut [u64]) -> Told
-    requires { (length memory.old ≡ 152520) × (1280 ≤ length out.old) }
+pub fn get(
+    memory: &mut [u64; MEMORY],
+    control: Control,
+    key: &[u8],
+    moment: u64,
+    out: &mut [u64; ROW],
+) -> Told
     ensures { Does (got control memory.old key.now moment) result out.old memory.new out.new }
 {
-    let Some(place) = find(memory, control, key, moment) else {
+    let Some(place) = find(control.base.table, memory, key, moment) else {
         return get_below(memory, control, key, moment);
     };
-    if is_gone(&memory[16448..147520], place) {
+    if is_gone(&memory[ARENA..ARENA_END], place) {
         return Told::Done;
     }
-    let len = write_row(&memory[16448..147520], place, out);
+    let len = write_row(&memory[ARENA..ARENA_END], place, out);
     turn_to(memory, control, Phase::Shown);
     Told::Tells(len)
 }
 
 // All pages came that were wanted: the version is shown, or there is none, or more is wanted.
-fn end_get(memory: &mut [u64], control: Control, lookup: Lookup, out: &mut [u64]) -> Told
-    requires { (length memory.old ≡ 152520) × (1280 ≤ length out.old) }
+fn end_get(
+    memory: &mut [u64; MEMORY],
+    control: Control,
+    lookup: Lookup,
+    out: &mut [u64; ROW],
+) -> Told
     ensures { Does (got_by control memory.old lookup) result out.old memory.new out.new }
 {
     let mut row = [0u8; 2016];
-    read_octets(&memory[147682..149698], &mut row);
-    let moment = moment_at(&memory[147520..147682], 0);
+    read_octets(&memory[RING..LIST], &mut row);
+    let moment = moment_at(&memory[STAGE..RING], 0);
     let extent = extent_of(control.manifest);
     match look_staged(memory, lookup, extent, &row, moment) {
         Looked::On(next) => ask(memory, control, next),
@@ -77,7 +83,8 @@ fn end_get(memory: &mut [u64], control: Control, lookup: Lookup, out: &mut [u64]
                 turn_to(memory, control, Phase::Idle);
                 return Told::Done;
             }
-            let len = write_place(lookup.loaded(&row), place, out);
+            let block = lookup.loaded(&row);
+            let len = write_shown(key_of(block, place), value_of(block, place), out);
             turn_to(memory, control, Phase::Shown);
             Told::Tells(len)
         }
@@ -85,8 +92,12 @@ fn end_get(memory: &mut [u64], control: Control, lookup: Lookup, out: &mut [u64]
 }
 
 // A page came for a get.
-pub fn get_on(memory: &mut [u64], control: Control, page: &[u8], out: &mut [u64]) -> Told
-    requires { (length memory.old ≡ 152520) × (1280 ≤ length out.old) }
+pub fn get_on(
+    memory: &mut [u64; MEMORY],
+    control: Control,
+    page: &[u8],
+    out: &mut [u64; ROW],
+) -> Told
     ensures { Does (got_on control memory.old page.now) result out.old memory.new out.new }
 {
     let lookup = take_page(memory, control.lookup, page);

@@ -1,57 +1,49 @@
 // A version is handed over to the writer of a table: its bytes go to the hand, behind a bound where it begins a block, and the entry of the block that it ends
 // to the page of positions.
-ghost use Rattle.std.specs.Prelude.{◌≡◌, true, length, take};
-ghost use Rattle.value.specs.Versions.{version};
+ghost use Rattle.std.specs.Prelude.{◌≡◌, true, false, take, MatchOption};
+ghost use Rattle.value.specs.Said.{said};
 ghost use Rattle.value.specs.Encoding.{in_limits};
 ghost use Rattle.table.specs.Layout.{entry};
-ghost use Rattle.flushing_store.specs.Give.{bound_after, brought, brought_length, ended_block, in_hand, given_writer, given_memory};
+ghost use Rattle.flushing_store.specs.Give.{bound_after, brought, ended_block, in_hand, given_writer, given_memory};
 
+use crate::control::{DATA, ENTRIES, HAND, MEMORY, RING, STAGE};
 use crate::octets::put_octets;
-use crate::stage::{read_key, stage};
+use crate::stage::stage;
 use memtable::moment_at;
+use std::cmp::Ordering;
+use store::{Bytes, read_key};
 use table::{Open, Writer};
-use value::{Ordering, encode, order, part_of};
+use value::{Version, encode, order};
 
 const NO_BOUND: u64 = 0xffff_ffff_ffff_ffff;
 
 // The bound of a block that begins with this key: the moment of the version that was handed over last, if it has the same key.
-fn bound_for(memory: &[u64], blocks: u64, key: &[u8]) -> u64
-    requires { length memory.now ≡ 152520 }
+fn bound_for(memory: &[u64; MEMORY], blocks: u64, key: &[u8]) -> u64
     ensures { result ≡ bound_after blocks memory.now key.now }
 {
     if blocks == 0 {
         return NO_BOUND;
     }
-    let stage = &memory[147520..147682];
-    let mut last = [0u8; 255];
-    let len = read_key(stage, 0, &mut last);
-    match order(part_of(&last, 0, len), key) {
+    let stage = &memory[STAGE..RING];
+    match order(read_key(stage, 0).as_slice(), key) {
         Ordering::Equal => moment_at(stage, 0),
         Ordering::Less => NO_BOUND,
         Ordering::Greater => NO_BOUND,
     }
 }
 
-// What a version brings, at the front of a row; and how many bytes that is. None where it is outside the limits.
-fn bring(
-    begins: bool,
-    bound: u64,
-    key: &[u8],
-    moment: u64,
-    gone: bool,
-    value: &[u8],
-    row: &mut [u8],
-) -> Option<usize>
-    requires { length row.old ≡ 1302 }
-    ensures len { result ≡ brought_length begins (version key.now moment gone value.now) }
-    ensures bytes { in_limits (version key.now moment gone value.now) ≡ true → take (length (brought begins bound (version key.now moment gone value.now))) row.new ≡ brought begins bound (version key.now moment gone value.now) }
+// What a version brings. None where it is outside the limits.
+fn bring(begins: bool, bound: u64, version: Version<'_>) -> Option<Bytes<1302>>
+    ensures { MatchOption result (in_limits (said version.entry) ≡ false) (λ b. (in_limits (said version.entry) ≡ true) × (take b.len b.row ≡ brought begins bound (said version.entry))) }
 {
+    let mut row = [0; 1302];
     if begins {
-        row[0..8].copy_from_slice(&bound.to_le_bytes());
-        let size = encode(key, moment, gone, value, &mut row[8..1302])?;
-        return Some(size + 8);
+        row[..8].copy_from_slice(&bound.to_le_bytes());
+        let len = encode(version, &mut row[8..])?;
+        return Some(Bytes { row, len: 8 + len });
     }
-    encode(key, moment, gone, value, row)
+    let len = encode(version, &mut row)?;
+    Some(Bytes { row, len })
 }
 
 // Where a block begins, and its length.
@@ -64,53 +56,46 @@ fn entry_of(block: Open) -> [u8; 8]
 }
 
 // The entry of the block being written, if there is one, goes to the page of positions.
-pub fn end_block(memory: &mut [u64], writer: Writer)
-    requires { length memory.old ≡ 152520 }
+pub fn end_block(memory: &mut [u64; MEMORY], writer: Writer)
     ensures { memory.new ≡ ended_block writer memory.old }
 {
     if writer.block.count == 0 {
         return;
     }
     put_octets(
-        &mut memory[152016..152520],
+        &mut memory[ENTRIES..MEMORY],
         writer.positions.fill,
         &entry_of(writer.block),
     );
 }
 
-fn put_in_hand(memory: &mut [u64], bytes: &[u8])
-    requires { length memory.old ≡ 152520 }
+fn put_in_hand(memory: &mut [u64; MEMORY], bytes: &[u8])
     ensures { memory.new ≡ in_hand bytes.now memory.old }
 {
-    put_octets(&mut memory[150202..151512], 0, bytes);
+    put_octets(&mut memory[HAND..DATA], 0, bytes);
 }
 
 // Hands a version over; none where it is outside the limits, and nothing is changed.
-pub fn give(
-    memory: &mut [u64],
-    writer: Writer,
-    key: &[u8],
-    moment: u64,
-    gone: bool,
-    value: &[u8],
-) -> Option<Writer>
-    requires { length memory.old ≡ 152520 }
-    ensures writer { result ≡ given_writer writer (version key.now moment gone value.now) }
-    ensures memory { memory.new ≡ given_memory writer (version key.now moment gone value.now) memory.old }
+pub fn give(memory: &mut [u64; MEMORY], writer: Writer, version: Version<'_>) -> Option<Writer>
+    ensures writer { result ≡ given_writer writer (said version.entry) }
+    ensures memory { memory.new ≡ given_memory writer (said version.entry) memory.old }
 {
     let size = 15u64
-        .saturating_add(key.len() as u64)
-        .saturating_add(value.len() as u64);
+        .saturating_add(version.key.len() as u64)
+        .saturating_add(version.value.len() as u64);
     let begins = writer.begins(size);
-    let bound = bound_for(memory, writer.block.count, key);
-    let mut row = [0u8; 1302];
-    let Some(len) = bring(begins, bound, key, moment, gone, value, &mut row) else {
-        return None;
-    };
-    put_in_hand(memory, part_of(&row, 0, len));
+    let bound = bound_for(memory, writer.block.count, version.key);
+    let bytes = bring(begins, bound, version)?;
+    put_in_hand(memory, bytes.as_slice());
     if begins {
         end_block(memory, writer);
     }
-    stage(memory, key, moment, gone, &[]);
+    stage(
+        memory,
+        Version {
+            value: &[],
+            ..version
+        },
+    );
     Some(writer.give(size))
 }

@@ -2,34 +2,31 @@
 ghost use Rattle.std.specs.Prelude.{◌≡◌, Bool, length};
 ghost use Rattle.flushing_store.specs.Round.{memory_head, leads, memory_turn, table_turn};
 
-use crate::control::{Control, Merging};
+use crate::control::{Control, HAND, LIST, MEMORY, Merging};
 use crate::give::give;
-use crate::stage::{read_key, read_value};
-use crate::turn::{Deed, Turn};
+use crate::turn::Turn;
 use memtable::{is_gone, moment_at, place_at};
 use merge::{Next, choose};
-use value::{Place, key_of, part_of, value_of};
+use store::{ARENA, ARENA_END, INDEX, read_key, read_value};
+use value::{Place, Version, key_of, value_of};
 
 // Where the next version in memory stands.
-pub fn memory_head(memory: &[u64], control: Control) -> Option<u64>
-    requires { length memory.now ≡ 152520 }
+pub fn memory_head(memory: &[u64; MEMORY], control: Control) -> Option<u64>
     ensures { result ≡ memory_head control memory.now }
 {
     if control.merging.walked < control.base.table.versions {
-        Some(place_at(&memory[64..16448], control.merging.walked))
+        Some(place_at(&memory[INDEX..ARENA], control.merging.walked))
     } else {
         None
     }
 }
 
 // Does the version in memory come before the one in the block?
-pub fn memory_leads(memory: &[u64], at: u64, block: &[u8], place: Place) -> bool
-    requires { length memory.now ≡ 152520 }
+pub fn memory_leads(memory: &[u64; MEMORY], at: u64, block: &[u8], place: Place) -> bool
     ensures { result ≡ leads memory.now at block.now place }
 {
-    let mut key = [0u8; 255];
-    let len = read_key(&memory[16448..147520], at, &mut key);
-    match choose(Some(part_of(&key, 0, len)), Some(key_of(block, place))) {
+    let key = read_key(&memory[ARENA..ARENA_END], at);
+    match choose(Some(key.as_slice()), Some(key_of(block, place))) {
         Next::Later => true,
         Next::Earlier => false,
         Next::End => false,
@@ -37,29 +34,28 @@ pub fn memory_leads(memory: &[u64], at: u64, block: &[u8], place: Place) -> bool
 }
 
 // Hands over the version in memory.
-pub fn give_memory(memory: &mut [u64], control: Control, at: u64) -> Turn
-    requires { length memory.old ≡ 152520 }
+pub fn give_memory(memory: &mut [u64; MEMORY], control: Control, at: u64) -> Turn
     ensures turn { result ≡ (memory_turn control memory.old at).turn }
     ensures memory { memory.new ≡ (memory_turn control memory.old at).memory }
 {
-    let arena = &memory[16448..147520];
-    let mut key = [0u8; 255];
-    let key_len = read_key(arena, at, &mut key);
-    let mut value = [0u8; 1024];
-    let value_len = read_value(arena, at, &mut value);
+    let arena = &memory[ARENA..ARENA_END];
+    let key = read_key(arena, at);
+    let value = read_value::<1024>(arena, at);
     let moment = moment_at(arena, at);
     let gone = is_gone(arena, at);
     let Some(writer) = give(
         memory,
         control.merging.writer,
-        part_of(&key, 0, key_len),
-        moment,
-        gone,
-        part_of(&value, 0, value_len),
+        Version {
+            key: key.as_slice(),
+            moment,
+            gone,
+            value: value.as_slice(),
+        },
     ) else {
         return Turn {
             control,
-            deed: Deed::More,
+            deed: None,
         };
     };
     let merging = Merging {
@@ -69,28 +65,29 @@ pub fn give_memory(memory: &mut [u64], control: Control, at: u64) -> Turn
     };
     Turn {
         control: Control { merging, ..control },
-        deed: Deed::More,
+        deed: None,
     }
 }
 
 // Hands over the version in the block.
-pub fn give_table(memory: &mut [u64], control: Control, block: &[u8], place: Place) -> Turn
-    requires { length memory.old ≡ 152520 }
+pub fn give_table(memory: &mut [u64; MEMORY], control: Control, block: &[u8], place: Place) -> Turn
     ensures turn { result ≡ (table_turn control memory.old block.now place).turn }
     ensures memory { memory.new ≡ (table_turn control memory.old block.now place).memory }
 {
-    let entry = control.merging.cursor.entry(&memory[149698..150202]);
+    let entry = control.merging.cursor.entry(&memory[LIST..HAND]);
     let Some(writer) = give(
         memory,
         control.merging.writer,
-        key_of(block, place),
-        place.moment,
-        place.gone,
-        value_of(block, place),
+        Version {
+            key: key_of(block, place),
+            moment: place.moment,
+            gone: place.gone,
+            value: value_of(block, place),
+        },
     ) else {
         return Turn {
             control,
-            deed: Deed::More,
+            deed: None,
         };
     };
     let merging = Merging {
@@ -100,6 +97,6 @@ pub fn give_table(memory: &mut [u64], control: Control, block: &[u8], place: Pla
     };
     Turn {
         control: Control { merging, ..control },
-        deed: Deed::More,
+        deed: None,
     }
 }

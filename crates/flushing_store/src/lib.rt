@@ -13,12 +13,12 @@ mod octets;
 mod power;
 mod put;
 mod round;
-mod shown;
 mod stage;
 mod target;
 mod turn;
 mod words;
 mod write;
 
-pub use entry::{MEMORY, step};
+pub use control::MEMORY;
+pub use entry::step;
 pub use laws::own_is_whole;

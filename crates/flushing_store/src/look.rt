@@ -2,19 +2,18 @@
 ghost use Rattle.std.specs.Prelude.{◌≡◌, length};
 ghost use Rattle.memtable.specs.Arena.{key_at};
 ghost use Rattle.table.specs.Lookup.{with_page};
-ghost use Rattle.flushing_store.specs.Acts.{Quiet};
+ghost use Rattle.store.specs.Acts.{Quiet};
 ghost use Rattle.flushing_store.specs.Control.{stage_region};
 ghost use Rattle.flushing_store.specs.Look.{extent_of as extent_in, looked, page_in, asked};
 
-use crate::control::Control;
-use crate::stage::read_key;
+use crate::control::{Control, LIST, MEMORY, RING, STAGE};
 use crate::words::save;
 use manifest::Manifest;
-use store::Told;
+use store::{Refusal, Told, read_key};
 use table::{Extent, Load, Lookup, Stage, place_payload};
-use value::{Place, part_of};
+use value::Place;
 
-// What the pages that came for a lookup say.
+// What the pages that came for a lookup say. Its three ends have names, where `ControlFlow<Option<Place>, Lookup>` would say `Break(None)` for the last.
 #[derive(Clone, Copy)]
 pub enum Looked {
     // More has to be read.
@@ -53,27 +52,24 @@ fn look(lookup: Lookup, extent: Extent, row: &[u8], key: &[u8], moment: u64) -> 
 
 // The same for the key of the version that the command is about.
 pub fn look_staged(
-    memory: &[u64],
+    memory: &[u64; MEMORY],
     lookup: Lookup,
     extent: Extent,
     row: &[u8],
     moment: u64,
 ) -> Looked
-    requires { length memory.now ≡ 152520 }
     ensures { result ≡ looked lookup extent row.now (key_at (stage_region memory.now) 0) moment }
 {
-    let mut key = [0u8; 255];
-    let len = read_key(&memory[147520..147682], 0, &mut key);
-    look(lookup, extent, row, part_of(&key, 0, len), moment)
+    let key = read_key(&memory[STAGE..RING], 0);
+    look(lookup, extent, row, key.as_slice(), moment)
 }
 
 // A page came: it goes to its place.
-pub fn take_page(memory: &mut [u64], lookup: Lookup, page: &[u8]) -> Lookup
-    requires { length memory.old ≡ 152520 }
+pub fn take_page(memory: &mut [u64; MEMORY], lookup: Lookup, page: &[u8]) -> Lookup
     ensures state { result ≡ with_page lookup }
     ensures row { memory.new ≡ page_in lookup page.now memory.old }
 {
-    place_payload(lookup.load.got, page, &mut memory[147682..149698]);
+    place_payload(lookup.load.got, page, &mut memory[RING..LIST]);
     Lookup {
         load: Load {
             span: lookup.load.span,
@@ -84,12 +80,11 @@ pub fn take_page(memory: &mut [u64], lookup: Lookup, page: &[u8]) -> Lookup
 }
 
 // Asks for the page that a lookup wants next.
-pub fn ask(memory: &mut [u64], control: Control, lookup: Lookup) -> Told
-    requires { length memory.old ≡ 152520 }
+pub fn ask(memory: &mut [u64; MEMORY], control: Control, lookup: Lookup) -> Told
     ensures { Quiet (asked control memory.old lookup) result memory.new }
 {
     let Some(page) = lookup.load.wants() else {
-        return Told::No(2);
+        return Told::No(Refusal::Unknown as u64);
     };
     save(memory, Control { lookup, ..control });
     Told::Read(page)

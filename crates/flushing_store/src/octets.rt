@@ -1,22 +1,17 @@
 // Bytes in rows of words, a byte a word.
-ghost use Rattle.std.specs.Prelude.{◌≡◌, length};
+ghost use Rattle.std.specs.Prelude.{◌≡◌, min, length, take};
 ghost use Rattle.table.specs.Row.{octets};
 ghost use Rattle.flushing_store.specs.Octets.{put_octets};
 
+use store::Bytes;
+use table::read_octets;
 use value::byte;
 
-// As many bytes as the row has; where there are no more, 0.
-pub fn cut_into(bytes: &[u8], row: &mut [u8])
+// A byte a word, over a whole row; where there are no more bytes, 0.
+pub fn widen_into(bytes: &[u8], row: &mut [u64])
     ensures { row.new ≡ octets (length row.old) bytes.now }
 {
-    for i in 0..row.len() {
-        row[i] = byte(bytes, i);
-    }
-}
-
-fn widen_into(bytes: &[u8], row: &mut [u64])
-    ensures { row.new ≡ octets (length row.old) bytes.now }
-{
+    // By index: a loop over a row that is zipped with bytes leaves its proof without the values that were written.
     for i in 0..row.len() {
         row[i] = u64::from(byte(bytes, i));
     }
@@ -34,4 +29,16 @@ pub fn put_octets(row: &mut [u64], at: u64, bytes: &[u8])
     }
     let from = at as usize;
     widen_into(bytes, &mut row[from..from + bytes.len()]);
+}
+
+// The first n bytes that words hold, at most 504, which is what a page has room for.
+pub fn page_octets(words: &[u64], n: u64) -> Bytes<504>
+    ensures { take result.len result.row ≡ octets (min n 504) words.now }
+{
+    let mut row = [0; 504];
+    read_octets(words, &mut row);
+    Bytes {
+        row,
+        len: n.min(504) as usize,
+    }
 }

@@ -1,16 +1,15 @@
 // Power is there: the two lists are read, and the one that holds is chosen. Nothing is put, so power may go again as often as it likes.
 ghost use Rattle.std.specs.Prelude.{◌≡◌, length};
-ghost use Rattle.flushing_store.specs.Acts.{Quiet};
+ghost use Rattle.store.specs.Acts.{Quiet};
 ghost use Rattle.flushing_store.specs.Power.{first_phase, powered, first_listed, second_listed};
 
-use crate::control::{Base, Control, Phase};
+use crate::control::{Base, Control, MEMORY, Phase};
 use crate::words::save;
 use manifest::{Found, later, read_list};
 use memtable::empty;
 use store::Told;
 
-pub fn power(memory: &mut [u64], control: Control, pages: u64) -> Told
-    requires { length memory.old ≡ 152520 }
+pub fn power(memory: &mut [u64; MEMORY], control: Control, pages: u64) -> Told
     ensures { Quiet (powered control memory.old pages) result memory.new }
 {
     let base = Base {
@@ -34,8 +33,7 @@ fn first_phase(whole: bool) -> Phase
 }
 
 // Page 0 has come.
-pub fn first_list(memory: &mut [u64], control: Control, page: &[u8]) -> Told
-    requires { length memory.old ≡ 152520 }
+pub fn first_list(memory: &mut [u64; MEMORY], control: Control, page: &[u8]) -> Told
     ensures { Quiet (first_listed control memory.old page.now) result memory.new }
 {
     let found = read_list(page);
@@ -55,8 +53,7 @@ pub fn first_list(memory: &mut [u64], control: Control, page: &[u8]) -> Told
 }
 
 // Page 1 has come; whether page 0 was whole is known.
-pub fn second_list(memory: &mut [u64], control: Control, whole: bool, page: &[u8]) -> Told
-    requires { length memory.old ≡ 152520 }
+pub fn second_list(memory: &mut [u64; MEMORY], control: Control, whole: bool, page: &[u8]) -> Told
     ensures { Quiet (second_listed control memory.old whole page.now) result memory.new }
 {
     let first = Found {

@@ -1,15 +1,15 @@
 // A merge of the table with what is in memory, a round at a time: a full page is put, bytes in hand go to the page, or the next version is handed over.
 ghost use Rattle.std.specs.Prelude.{◌≡◌, length};
-ghost use Rattle.flushing_store.specs.Round.{settled_turn, data_turn, positions_turn, took_bytes, took_turn, closed_turn, head_turn, block_turn, next_turn, round as round_of};
+ghost use Rattle.flushing_store.specs.Round.{settled_turn, put_turn, data_turn, positions_turn, took_bytes, took_turn, closed_turn, head_turn, block_turn, next_turn, round as round_of};
 
-use crate::control::{Base, Control, Merging, Phase};
+use crate::control::{Base, Control, DATA, ENTRIES, HAND, LIST, MEMORY, Merging, Phase, RING};
 use crate::give::end_block;
 use crate::heads::{give_memory, give_table, memory_head, memory_leads};
 use crate::look::extent_of;
-use crate::octets::put_octets;
+use crate::octets::{page_octets, put_octets};
 use crate::target::{data_of, start_of};
 use crate::turn::{Deed, Turn};
-use table::{Due, Want, block_into, read_octets};
+use table::{Due, Want, Writer, block_into};
 use value::{Place, part_of};
 
 // So many pages wait at the most before all that wait are settled.
@@ -25,7 +25,22 @@ fn settle(control: Control) -> Turn
     };
     Turn {
         control: Control { merging, ..control },
-        deed: Deed::Settle,
+        deed: Some(Deed::Settle),
+    }
+}
+
+// A page is put: one more waits.
+fn put(control: Control, writer: Writer, deed: Deed) -> Turn
+    ensures { result ≡ put_turn control writer deed }
+{
+    let merging = Merging {
+        writer,
+        waiting: control.merging.waiting.wrapping_add(1),
+        ..control.merging
+    };
+    Turn {
+        control: Control { merging, ..control },
+        deed: Some(deed),
     }
 }
 
@@ -34,16 +49,12 @@ fn put_data(control: Control) -> Turn
     ensures { result ≡ data_turn control }
 {
     let writer = control.merging.writer;
-    let merging = Merging {
-        writer: writer.put_data(),
-        waiting: control.merging.waiting.wrapping_add(1),
-        ..control.merging
-    };
     let page = data_of(control).wrapping_add(writer.stream.put);
-    Turn {
-        control: Control { merging, ..control },
-        deed: Deed::Data(page, writer.stream.fill),
-    }
+    put(
+        control,
+        writer.put_data(),
+        Deed::Data(page, writer.stream.fill),
+    )
 }
 
 // The page of positions is put.
@@ -51,32 +62,24 @@ pub fn put_positions(control: Control) -> Turn
     ensures { result ≡ positions_turn control }
 {
     let writer = control.merging.writer;
-    let merging = Merging {
-        writer: writer.put_positions(),
-        waiting: control.merging.waiting.wrapping_add(1),
-        ..control.merging
-    };
     let page = start_of(control).wrapping_add(writer.positions.put);
-    Turn {
-        control: Control { merging, ..control },
-        deed: Deed::Positions(page, writer.positions.fill),
-    }
+    put(
+        control,
+        writer.put_positions(),
+        Deed::Positions(page, writer.positions.fill),
+    )
 }
 
 // Bytes in hand go to the page of data, at most 504.
-fn move_bytes(memory: &mut [u64], taken: u64, fill: u64, n: u64)
-    requires { length memory.old ≡ 152520 }
+fn move_bytes(memory: &mut [u64; MEMORY], taken: u64, fill: u64, n: u64)
     ensures { memory.new ≡ took_bytes taken fill n memory.old }
 {
-    let mut bytes = [0u8; 504];
     let from = taken.min(1310) as usize;
-    read_octets(&memory[150202 + from..151512], &mut bytes);
-    let len = n.min(504) as usize;
-    put_octets(&mut memory[151512..152016], fill, part_of(&bytes, 0, len));
+    let bytes = page_octets(&memory[HAND + from..DATA], n);
+    put_octets(&mut memory[DATA..ENTRIES], fill, bytes.as_slice());
 }
 
-fn take_bytes(memory: &mut [u64], control: Control, n: u64) -> Turn
-    requires { length memory.old ≡ 152520 }
+fn take_bytes(memory: &mut [u64; MEMORY], control: Control, n: u64) -> Turn
     ensures turn { result ≡ took_turn control n }
     ensures memory { memory.new ≡ took_bytes control.merging.writer.hand.taken control.merging.writer.stream.fill n memory.old }
 {
@@ -88,13 +91,12 @@ fn take_bytes(memory: &mut [u64], control: Control, n: u64) -> Turn
     };
     Turn {
         control: Control { merging, ..control },
-        deed: Deed::More,
+        deed: None,
     }
 }
 
 // All was handed over: the last block is closed, and the last page of data is put, or where that is empty the last page of positions.
-fn close(memory: &mut [u64], control: Control) -> Turn
-    requires { length memory.old ≡ 152520 }
+fn close(memory: &mut [u64; MEMORY], control: Control) -> Turn
     ensures turn { result ≡ (closed_turn control memory.old).turn }
     ensures memory { memory.new ≡ (closed_turn control memory.old).memory }
 {
@@ -127,8 +129,12 @@ fn close(memory: &mut [u64], control: Control) -> Turn
 }
 
 // The next version of the two runs is handed over; where nothing is left, the table is closed.
-fn hand_over(memory: &mut [u64], control: Control, block: &[u8], place: Option<Place>) -> Turn
-    requires { length memory.old ≡ 152520 }
+fn hand_over(
+    memory: &mut [u64; MEMORY],
+    control: Control,
+    block: &[u8],
+    place: Option<Place>,
+) -> Turn
     ensures turn { result ≡ (head_turn control memory.old block.now place).turn }
     ensures memory { memory.new ≡ (head_turn control memory.old block.now place).memory }
 {
@@ -147,31 +153,25 @@ fn hand_over(memory: &mut [u64], control: Control, block: &[u8], place: Option<P
 }
 
 // The head of the table's run, which is there.
-fn next_in_block(memory: &mut [u64], control: Control) -> Turn
-    requires { length memory.old ≡ 152520 }
+fn next_in_block(memory: &mut [u64; MEMORY], control: Control) -> Turn
     ensures turn { result ≡ (block_turn control memory.old).turn }
     ensures memory { memory.new ≡ (block_turn control memory.old).memory }
 {
     let cursor = control.merging.cursor;
-    let entry = cursor.entry(&memory[149698..150202]);
+    let entry = cursor.entry(&memory[LIST..HAND]);
     let mut row = [0u8; 1512];
-    let len = block_into(entry, &memory[147682..149698], &mut row);
+    let len = block_into(entry, &memory[RING..LIST], &mut row);
     let block = part_of(&row, 0, len);
     hand_over(memory, control, block, cursor.head(block))
 }
 
 // The next version is due: it is handed over, or the page that tells the head of the table's run is read.
-fn next_version(memory: &mut [u64], control: Control) -> Turn
-    requires { length memory.old ≡ 152520 }
+fn next_version(memory: &mut [u64; MEMORY], control: Control) -> Turn
     ensures turn { result ≡ (next_turn control memory.old).turn }
     ensures memory { memory.new ≡ (next_turn control memory.old).memory }
 {
     let extent = extent_of(control.manifest);
-    let fetched = match control
-        .merging
-        .cursor
-        .wants(extent, &memory[149698..150202])
-    {
+    let fetched = match control.merging.cursor.wants(extent, &memory[LIST..HAND]) {
         Want::Positions(page) => page,
         Want::Data(page) => page,
         Want::Head => return next_in_block(memory, control),
@@ -179,12 +179,11 @@ fn next_version(memory: &mut [u64], control: Control) -> Turn
     };
     Turn {
         control,
-        deed: Deed::Fetch(fetched),
+        deed: Some(Deed::Fetch(fetched)),
     }
 }
 
-pub fn round(memory: &mut [u64], control: Control) -> Turn
-    requires { length memory.old ≡ 152520 }
+pub fn round(memory: &mut [u64; MEMORY], control: Control) -> Turn
     ensures turn { result ≡ (round_of control memory.old).turn }
     ensures memory { memory.new ≡ (round_of control memory.old).memory }
 {

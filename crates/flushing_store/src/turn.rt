@@ -1,10 +1,8 @@
-// What a turn of a merge leaves: the control state, and what it wants done.
+// What a turn of a merge leaves: the control state, and what it wants done. Where it wants nothing, the next round follows at once.
 use crate::control::Control;
 
 #[derive(Clone, Copy)]
 pub enum Deed {
-    // Nothing: the next round follows at once.
-    More,
     // Read this page.
     Fetch(u64),
     // Put the page of data, with so many bytes, to this page.
@@ -17,5 +15,5 @@ pub enum Deed {
 #[derive(Clone, Copy)]
 pub struct Turn {
     pub control: Control,
-    pub deed: Deed,
+    pub deed: Option<Deed>,
 }

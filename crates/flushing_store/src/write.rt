@@ -1,154 +1,62 @@
 // Writing and erasing: the checks in their order, each of which hands on its value or leaves with its number; then the version goes into memory.
 ghost use Rattle.std.specs.Prelude.{◌≡◌, length};
-ghost use Rattle.value.specs.Versions.{version};
-ghost use Rattle.flushing_store.specs.Acts.{Quiet};
+ghost use Rattle.value.specs.Said.{said};
+ghost use Rattle.store.specs.Acts.{Quiet};
 ghost use Rattle.flushing_store.specs.Stage.{staged_version};
-ghost use Rattle.flushing_store.specs.Write.{key_size, value_size, proper_moment, not_earlier, unwritten as unwritten_at, roomy as roomy_for, within_pages, in_arena, in_index, put_in, sought_below, accepted, wrote, finished, wrote_by, wrote_on};
+ghost use Rattle.flushing_store.specs.Write.{put_in, sought_below, accepted, wrote, finished, wrote_by, wrote_on};
+ghost use Rattle.store.specs.Regions.{in_arena, in_index};
+ghost use Rattle.store.specs.Checks.{key_size, value_size, proper_moment, not_earlier, unwritten as unwritten_at, roomy as roomy_for, within_pages};
 
-use crate::control::{Base, Control, Phase};
+use crate::control::{Base, Control, LIST, MEMORY, Phase, RING, STAGE};
 use crate::look::{Looked, ask, extent_of, look_staged, take_page};
-use crate::stage::{read_key, read_value, stage};
+use crate::stage::stage;
 use crate::words::{save, turn_to};
-use memtable::{Memtable, append, enter, is_gone, moment_at};
-use store::Told;
+use memtable::{Memtable, is_gone, moment_at};
+use store::{
+    Refusal, Told, key_size, not_earlier, proper_moment, put_in_table, read_key, read_value, roomy,
+    unwritten, value_size, within_pages,
+};
 use table::{Lookup, begin, read_octets};
-use value::part_of;
-
-// The length of a key that may be written.
-fn key_size(key: &[u8]) -> Option<u64>
-    ensures { result ≡ key_size key.now }
-{
-    let n = key.len();
-    if n < 1 || n > 255 {
-        None
-    } else {
-        Some(n as u64)
-    }
-}
-
-// The length of a value that may be written.
-fn value_size(value: &[u8]) -> Option<u64>
-    ensures { result ≡ value_size value.now }
-{
-    if value.len() > 1024 {
-        None
-    } else {
-        Some(value.len() as u64)
-    }
-}
-
-fn proper_moment(moment: u64) -> Option<u64>
-    ensures { result ≡ proper_moment moment }
-{
-    if moment < 0x8000_0000_0000_0000 {
-        Some(moment)
-    } else {
-        None
-    }
-}
-
-// A moment that is not below the last write's.
-fn not_earlier(last: u64, moment: u64) -> Option<u64>
-    ensures { result ≡ not_earlier last moment }
-{
-    if moment < last { None } else { Some(moment) }
-}
-
-// Where a version goes in the index, if its key was not written at this moment, as far as memory knows.
-fn unwritten(table: Memtable, memory: &[u64], key: &[u8], moment: u64) -> Option<u64>
-    requires { length memory.now ≡ 152520 }
-    ensures { result ≡ unwritten_at table memory.now key.now moment }
-{
-    let index = &memory[64..16448];
-    let arena = &memory[16448..147520];
-    if table.written_at(index, arena, key, moment) {
-        return None;
-    }
-    Some(table.seek(index, arena, key, moment))
-}
-
-// The memtable with a version more, if what is not safe does not weigh too much then.
-fn roomy(table: Memtable, key: u64, value: u64) -> Option<Memtable>
-    ensures { result ≡ roomy_for table key value }
-{
-    if !table.accepts(16384, 131072, key, value) {
-        return None;
-    }
-    Some(table.with_one(16384, 131072, key, value))
-}
-
-// What has to be kept, if it is no more than a quarter of the pages' bytes.
-fn within_pages(pages: u64, weight: u64) -> Option<u64>
-    ensures { result ≡ within_pages pages weight }
-{
-    if weight > pages.saturating_mul(128) {
-        None
-    } else {
-        Some(weight)
-    }
-}
-
-fn put_in_arena(memory: &mut [u64], used: u64, key: &[u8], moment: u64, gone: bool, value: &[u8])
-    requires { length memory.old ≡ 152520 }
-    ensures { memory.new ≡ in_arena used (version key.now moment gone value.now) memory.old }
-{
-    append(&mut memory[16448..147520], used, key, moment, gone, value);
-}
-
-fn put_in_index(memory: &mut [u64], table: Memtable, place: u64)
-    requires { length memory.old ≡ 152520 }
-    ensures { memory.new ≡ in_index table place memory.old }
-{
-    enter(&mut memory[64..16448], table.versions, place, table.used);
-}
+use value::Version;
 
 fn put_version(
-    memory: &mut [u64],
+    memory: &mut [u64; MEMORY],
     control: Control,
     place: u64,
     table: Memtable,
-    key: &[u8],
-    moment: u64,
-    gone: bool,
-    value: &[u8],
+    version: Version<'_>,
 )
-    requires { length memory.old ≡ 152520 }
-    ensures { memory.new ≡ put_in control place table (version key.now moment gone value.now) memory.old }
+    ensures { memory.new ≡ put_in control place table (said version.entry) memory.old }
 {
-    put_in_arena(memory, control.base.table.used, key, moment, gone, value);
-    put_in_index(memory, control.base.table, place);
+    put_in_table(memory, control.base.table, place, version);
     let base = Base {
         phase: Phase::Idle,
         pages: control.base.pages,
-        last: moment,
+        last: version.moment,
         table,
     };
     save(memory, Control { base, ..control });
 }
 
 // The table is known not to have the key at this moment: the checks that are left.
-fn accept(
-    memory: &mut [u64],
-    control: Control,
-    key: &[u8],
-    moment: u64,
-    gone: bool,
-    value: &[u8],
-) -> Told
-    requires { length memory.old ≡ 152520 }
-    ensures { Quiet (accepted control memory.old (version key.now moment gone value.now)) result memory.new }
+fn accept(memory: &mut [u64; MEMORY], control: Control, version: Version<'_>) -> Told
+    ensures { Quiet (accepted control memory.old (said version.entry)) result memory.new }
 {
-    let Some(place) = unwritten(control.base.table, memory, key, moment) else {
-        return Told::No(3);
+    let Some(place) = unwritten(control.base.table, memory, version.key, version.moment) else {
+        return Told::No(Refusal::Moment as u64);
     };
-    let Some(table) = roomy(control.base.table, key.len() as u64, value.len() as u64) else {
-        return Told::No(7);
+    let Some(table) = roomy(
+        control.base.table,
+        version.key.len() as u64,
+        version.value.len() as u64,
+    ) else {
+        return Told::No(Refusal::Unsafe as u64);
     };
     let all = control.manifest.weight.all.wrapping_add(table.weight);
     let Some(_) = within_pages(control.base.pages, all) else {
-        return Told::No(8);
+        return Told::No(Refusal::Full as u64);
     };
-    put_version(memory, control, place, table, key, moment, gone, value);
+    put_version(memory, control, place, table, version);
     Told::Done
 }
 
@@ -163,33 +71,25 @@ fn seek_below(control: Control, moment: u64) -> Option<Lookup>
 }
 
 // Writes a version into memory, or says why not.
-pub fn write(
-    memory: &mut [u64],
-    control: Control,
-    key: &[u8],
-    moment: u64,
-    gone: bool,
-    value: &[u8],
-) -> Told
-    requires { length memory.old ≡ 152520 }
-    ensures { Quiet (wrote control memory.old (version key.now moment gone value.now)) result memory.new }
+pub fn write(memory: &mut [u64; MEMORY], control: Control, version: Version<'_>) -> Told
+    ensures { Quiet (wrote control memory.old (said version.entry)) result memory.new }
 {
-    let Some(_) = key_size(key) else {
-        return Told::No(6);
+    let Some(_) = key_size(version.key) else {
+        return Told::No(Refusal::Limits as u64);
     };
-    let Some(_) = value_size(value) else {
-        return Told::No(6);
+    let Some(_) = value_size(version.value) else {
+        return Told::No(Refusal::Limits as u64);
     };
-    let Some(moment) = proper_moment(moment) else {
-        return Told::No(6);
+    let Some(moment) = proper_moment(version.moment) else {
+        return Told::No(Refusal::Limits as u64);
     };
     let Some(moment) = not_earlier(control.base.last, moment) else {
-        return Told::No(3);
+        return Told::No(Refusal::Moment as u64);
     };
     let Some(lookup) = seek_below(control, moment) else {
-        return accept(memory, control, key, moment, gone, value);
+        return accept(memory, control, Version { moment, ..version });
     };
-    stage(memory, key, moment, gone, value);
+    stage(memory, Version { moment, ..version });
     let base = Base {
         phase: Phase::Writing,
         ..control.base
@@ -198,16 +98,13 @@ pub fn write(
 }
 
 // The table does not have the key at this moment: the write goes on with the version that was staged.
-fn finish(memory: &mut [u64], control: Control) -> Told
-    requires { length memory.old ≡ 152520 }
+fn finish(memory: &mut [u64; MEMORY], control: Control) -> Told
     ensures { Quiet (finished control memory.old) result memory.new }
 {
     turn_to(memory, control, Phase::Idle);
-    let stage = &memory[147520..147682];
-    let mut key = [0u8; 255];
-    let key_len = read_key(stage, 0, &mut key);
-    let mut value = [0u8; 1024];
-    let value_len = read_value(stage, 0, &mut value);
+    let stage = &memory[STAGE..RING];
+    let key = read_key(stage, 0);
+    let value = read_value::<1024>(stage, 0);
     let moment = moment_at(stage, 0);
     let gone = is_gone(stage, 0);
     let base = Base {
@@ -217,21 +114,22 @@ fn finish(memory: &mut [u64], control: Control) -> Told
     accept(
         memory,
         Control { base, ..control },
-        part_of(&key, 0, key_len),
-        moment,
-        gone,
-        part_of(&value, 0, value_len),
+        Version {
+            key: key.as_slice(),
+            moment,
+            gone,
+            value: value.as_slice(),
+        },
     )
 }
 
 // All pages came that were wanted: the key was written at this moment, or it was not, or more is wanted.
-fn end_look(memory: &mut [u64], control: Control, lookup: Lookup) -> Told
-    requires { length memory.old ≡ 152520 }
+fn end_look(memory: &mut [u64; MEMORY], control: Control, lookup: Lookup) -> Told
     ensures { Quiet (wrote_by control memory.old lookup) result memory.new }
 {
     let mut row = [0u8; 2016];
-    read_octets(&memory[147682..149698], &mut row);
-    let moment = moment_at(&memory[147520..147682], 0);
+    read_octets(&memory[RING..LIST], &mut row);
+    let moment = moment_at(&memory[STAGE..RING], 0);
     let extent = extent_of(control.manifest);
     match look_staged(memory, lookup, extent, &row, moment.wrapping_add(1)) {
         Looked::On(next) => ask(memory, control, next),
@@ -239,7 +137,7 @@ fn end_look(memory: &mut [u64], control: Control, lookup: Lookup) -> Told
         Looked::Found(place) => {
             if place.moment == moment {
                 turn_to(memory, control, Phase::Idle);
-                return Told::No(3);
+                return Told::No(Refusal::Moment as u64);
             }
             finish(memory, control)
         }
@@ -247,8 +145,7 @@ fn end_look(memory: &mut [u64], control: Control, lookup: Lookup) -> Told
 }
 
 // A page came for a write.
-pub fn write_on(memory: &mut [u64], control: Control, page: &[u8]) -> Told
-    requires { length memory.old ≡ 152520 }
+pub fn write_on(memory: &mut [u64; MEMORY], control: Control, page: &[u8]) -> Told
     ensures { Quiet (wrote_on control memory.old page.now) result memory.new }
 {
     let lookup = take_page(memory, control.lookup, page);

@@ -7,7 +7,7 @@ use Rattle.store.specs.House.{House, get, refusal, after, shows, small_command}
 use Rattle.store.specs.Promise.{Event, said, next, done, Step, World}
 use Rattle.store.specs.Account.{Next, NextStep, leavings, TellsRight, nothing, part, StopLeaves, undone, Ends, finished, most_commands, Serves}
 use Rattle.store.specs.Control.{control, control_of, put_control}
-use Rattle.store.specs.Write.{stepped}
+use Rattle.store.specs.Acts.{stepped}
 use Rattle.store.specs.Get.{got}
 use Rattle.store.specs.Own.{known, heard, went_on, turned, own}
 use Rattle.store.specs.declared.control.Phase.TheVariants.{Idle, Shown}

@@ -10,9 +10,11 @@ use Rattle.memtable.proofs.WordLaws.{length_row}
 use Rattle.memtable.proofs.AnswerLaws.{find_right}
 use Rattle.store.specs.House.{House, get, shown_as, shows}
 use Rattle.store.specs.Promise.{Step, done, tells}
-use Rattle.store.specs.Control.{control, control_of, put_control, index_of, arena_of}
-use Rattle.store.specs.Write.{stepped}
-use Rattle.store.specs.Get.{row_at, told_of, sought, got}
+use Rattle.store.specs.Control.{control, control_of, put_control}
+use Rattle.store.specs.Regions.{index_of, arena_of, sought}
+use Rattle.store.specs.Acts.{stepped}
+use Rattle.store.specs.Get.{told_of, got}
+use Rattle.store.specs.Shown.{row_at}
 use Rattle.store.specs.declared.control.Phase.TheVariants.{Idle, Shown}
 use Rattle.store.proofs.HeldLaws.{Held, held_phase}
 
@@ -50,7 +52,7 @@ row_is a p f =
     (all ∙ ap (λ x. x ∷ (ks ++ vs)) (sym (length_row a p 2 (key_length a p))), ap (λ x. leb (length x) 1280) all ∙ le-leb (length (key_length a p ∷ (ks ++ vs))) 1280 n)
 
 module _ (pages : ℕ) (h : House) (m key : List ℕ) (t : ℕ) (o : Held pages h Idle m) (b : bytes key ≡ true) where
-  found_is : each (version_at (arena_of m)) (as_list (sought (control Idle pages h.last o.table) m key t)) ≡ latest h.versions key t
+  found_is : each (version_at (arena_of m)) (as_list (sought o.table m key t)) ≡ latest h.versions key t
   unfolding sought
   found_is = find_right (index_of m) (arena_of m) o.table h.versions key t o.holds o.rises b
 
@@ -81,4 +83,4 @@ module _ (pages : ℕ) (h : House) (m key : List ℕ) (t : ℕ) (o : Held pages 
 
   pub got_outcome : Outcome pages h m key t (got (control_of m) m key t)
   unfolding got
-  got_outcome = subst (λ k. Outcome pages h m key t (got k m key t)) (sym o.control_is) (told (sought (control Idle pages h.last o.table) m key t) found_is)
+  got_outcome = subst (λ k. Outcome pages h m key t (got k m key t)) (sym o.control_is) (told (sought o.table m key t) found_is)

@@ -7,7 +7,8 @@ use Rattle.memtable.specs.Holds.{Holds}
 use Rattle.memtable.specs.declared.memtable.Memtable.{Memtable}
 use Rattle.memtable.proofs.AnswerLaws.{empty_right, sizes_suffice}
 use Rattle.store.specs.House.{House, house}
-use Rattle.store.specs.Control.{memory_words, control, control_of, put_control, index_of, arena_of}
+use Rattle.store.specs.Control.{memory_words, control, control_of, put_control}
+use Rattle.store.specs.Regions.{index_of, arena_of}
 use Rattle.store.specs.declared.control.Phase.{Phase}
 use Rattle.store.specs.declared.control.Phase.TheVariants.{Idle}
 use Rattle.store.proofs.MemoryLaws.{region_put, length_put, control_put}

@@ -16,3 +16,8 @@ pub mod OwnAccount
 pub mod WriteServes
 pub mod GetServes
 pub mod OwnLaws
+pub mod ToldLaws
+pub mod LaidLaws
+pub mod ShownLaws
+pub mod RegionLaws
+pub mod EventLaws

@@ -1,39 +1,17 @@
 -- The machine's memory seen through its parts: what a write to one part leaves of the others.
-use Rattle.std.proofs.Common.{◌≡◌, ℕ, ◌+◌, ◌<◌, ◌≤◌, List, [], ◌∷◌, ◌++◌, length, take, drop, set, sym, refl, ap, ◌∙◌, arith, length-append, length-drop, length-set, length-take}
-use Rattle.std.proofs.lemmas.List.{drop_at, take_at, length-take-le, drop-take, drop-set-lt}
-use Rattle.std.proofs.lemmas.Slice.{drop-put_mid, take-put_mid_below}
+use Rattle.std.proofs.Common.{◌≡◌, ℕ, ◌<◌, ◌≤◌, List, [], ◌∷◌, length, take, set, refl, ap, ◌∙◌, arith, length-set}
+use Rattle.std.proofs.lemmas.List.{drop-set-lt}
 use Rattle.value.specs.Versions.{Version}
 use Rattle.memtable.specs.Arena.{appended}
 use Rattle.memtable.specs.Index.{entered}
 use Rattle.memtable.specs.declared.memtable.Memtable.{Memtable}
 use Rattle.memtable.proofs.SteadyLaws.{append_keeps, enter_keeps}
-use Rattle.store.specs.Control.{memory_words, wrap, control, phase_of, phase_number, control_of, put_control, region, within, index_of, arena_of}
-use Rattle.store.specs.Write.{in_arena, in_index}
+use Rattle.store.specs.Control.{memory_words, control, phase_of, phase_number, control_of, put_control}
+use Rattle.store.specs.Regions.{wrap, region, index_of, arena_of, in_arena, in_index}
+use Rattle.store.proofs.RegionLaws.{length_within, region_same, region_above, region_below, length_region}
 use Rattle.store.specs.declared.control.Phase.{Phase}
 use Rattle.store.specs.declared.control.Phase.TheVariants.{Idle, Shown}
 use Rattle.store.specs.declared.control.Control.{Control}
-
--- four laws, once for all regions
-length_within : (a n : ℕ) (f : List ℕ → List ℕ) (m : List ℕ) → a + n ≤ length m → length (f (region a n m)) ≡ n → length (within a n f m) ≡ length m
-unfolding region within
-length_within a n f m h e = simp (length-append, length-take, length-drop) (omega arith)
-
-region_same : (a n : ℕ) (f : List ℕ → List ℕ) (m : List ℕ) → a + n ≤ length m → length (f (region a n m)) ≡ n → region a n (within a n f m) ≡ f (region a n m)
-unfolding region within
-region_same a n f m h e =
-    ap (take n) (drop_at (take a m) (f (region a n m) ++ drop n (drop a m)) a (length-take-le a m (omega arith))) ∙ take_at (f (region a n m)) (drop n (drop a m)) n e
-
-region_above : (a n b k : ℕ) (f : List ℕ → List ℕ) (m : List ℕ) → a + n ≤ length m → length (f (region a n m)) ≡ n → a + n ≤ b → region b k (within a n f m) ≡ region b k m
-unfolding region within
-region_above a n b k f m h e le = ap (take k) (drop-put_mid a n m (f (region a n m)) b le (omega arith) e)
-
-region_below : (a n b k : ℕ) (f : List ℕ → List ℕ) (m : List ℕ) → a + n ≤ length m → b + k ≤ a → region b k (within a n f m) ≡ region b k m
-unfolding region within
-region_below a n b k f m h le = sym (drop-take b k _) ∙ ap (drop b) (take-put_mid_below a n m (f (region a n m)) (b + k) le (omega arith)) ∙ drop-take b k m
-
-pub length_region : (a n : ℕ) (m : List ℕ) → a + n ≤ length m → length (region a n m) ≡ n
-unfolding region
-length_region a n m h = length-take-le n (drop a m) (omega (arith, length-drop a m))
 
 region_set : (b k i v : ℕ) (m : List ℕ) → i < b → region b k (set m i v) ≡ region b k m
 unfolding region

@@ -4,7 +4,7 @@ use Rattle.store.specs.House.{House, Command, write, erase, get, range, first_ke
 use Rattle.store.specs.Promise.{Event, said, refused, World}
 use Rattle.store.specs.Account.{NextStep, leavings, TellsRight, nothing, StopLeaves, undone, Ends, unknown, most_commands, Serves, Obligations}
 use Rattle.store.specs.Control.{control_of}
-use Rattle.store.specs.Write.{stepped}
+use Rattle.store.specs.Acts.{stepped}
 use Rattle.store.specs.Own.{known, heard, turned, own, OwnWhole}
 use Rattle.store.specs.declared.control.Phase.TheVariants.{Idle, Shown}
 use Rattle.store.proofs.RunLaws.{next_by}

@@ -9,9 +9,13 @@ use Rattle.memtable.specs.declared.memtable.Memtable.{Memtable}
 use Rattle.memtable.proofs.SteadyLaws.{append_keeps, enter_keeps}
 use Rattle.store.specs.House.{Command, write, erase, get, range, first_key, last_key, count, flush, compact}
 use Rattle.store.specs.Promise.{Event, on, said, page, next, Step, done, tells, refused, all_small, Steady}
-use Rattle.store.specs.Control.{memory_words, wrap, phase_number, control, control_of, put_control, region, within, index_of, arena_of}
-use Rattle.store.specs.Write.{stepped, checked, key_size, value_size, proper_moment, not_earlier, unwritten, roomy, within_pages, in_arena, in_index, put_in, wrote}
-use Rattle.store.specs.Get.{row_at, told_of, sought, got}
+use Rattle.store.specs.Control.{memory_words, phase_number, control, control_of, put_control}
+use Rattle.store.specs.Regions.{wrap, region, within, index_of, arena_of, in_arena, in_index, sought}
+use Rattle.store.specs.Write.{put_in, wrote}
+use Rattle.store.specs.Checks.{checked, key_size, value_size, proper_moment, not_earlier, unwritten, roomy, within_pages}
+use Rattle.store.specs.Acts.{stepped}
+use Rattle.store.specs.Get.{told_of, got}
+use Rattle.store.specs.Shown.{row_at}
 use Rattle.store.specs.Own.{powered, went_on, heard, turned, blank_memory, own}
 use Rattle.store.specs.declared.control.Phase.{Phase}
 use Rattle.store.specs.declared.control.Phase.TheVariants.{Idle, Shown}
@@ -126,7 +130,7 @@ heard_keeps : (m : List ℕ) (k : Control) (c : Command) → length m ≡ memory
 unfolding heard got
 heard_keeps m k (write key s v) l u = wrote_keeps m k _ l u
 heard_keeps m k (erase key s) l u = wrote_keeps m k _ l u
-heard_keeps m k (get key s) l u = told_keeps m k (sought k m key s)
+heard_keeps m k (get key s) l u = told_keeps m k (sought k.table m key s)
 heard_keeps m k (range a b s) l u = kept (same_keeps m)
 heard_keeps m k (first_key s) l u = kept (same_keeps m)
 heard_keeps m k (last_key s) l u = kept (same_keeps m)

@@ -14,11 +14,15 @@ use Rattle.memtable.proofs.AnswerLaws.{written_right}
 use Rattle.memtable.proofs.InsertLaws.{insert_right, room_right}
 use Rattle.store.specs.House.{House, a_key, written_then, write_refusal, written, unsafe, needed, full_by}
 use Rattle.store.specs.Promise.{Step, done, refused}
-use Rattle.store.specs.Control.{memory_words, control, control_of, put_control, index_of, arena_of}
-use Rattle.store.specs.Write.{stepped, unwritten, in_arena, in_index, put_in, wrote}
+use Rattle.store.specs.Control.{memory_words, control, control_of, put_control}
+use Rattle.store.specs.Regions.{index_of, arena_of, in_arena, in_index}
+use Rattle.store.specs.Write.{put_in, wrote}
+use Rattle.store.specs.Checks.{unwritten}
+use Rattle.store.specs.Acts.{stepped}
 use Rattle.store.specs.declared.control.Phase.TheVariants.{Idle}
 use Rattle.store.specs.declared.control.Control.{Control}
-use Rattle.store.proofs.MemoryLaws.{length_region, region_put, length_put, length_in_arena, arena_in_arena, index_in_arena, length_in_index, index_in_index, arena_in_index}
+use Rattle.store.proofs.MemoryLaws.{region_put, length_put, length_in_arena, arena_in_arena, index_in_arena, length_in_index, index_in_index, arena_in_index}
+use Rattle.store.proofs.RegionLaws.{length_region}
 use Rattle.store.proofs.RisingLaws.{write_rises, last_push, kept_all}
 use Rattle.store.proofs.HeldLaws.{Held, put_held}
 

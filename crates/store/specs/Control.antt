@@ -3,13 +3,14 @@
 --   put_control m k    the memory with other control words; every number is cut to 64 bits
 --   region a n m       n words from a on
 --   within a n f m     the memory with f done to them
-use Rattle.std.specs.Prelude.{ℕ, ◌%◌, List, ◌++◌, take, drop, ◌==◌, slice_index, slice_set}
+use Rattle.std.specs.Prelude.{ℕ, List, ◌==◌, slice_index, slice_set}
 use Rattle.value.specs.Versions.{pick}
 use Rattle.memtable.specs.Memtable.{memtable}
 use Rattle.memtable.specs.declared.memtable.Memtable.{Memtable}
 use Rattle.store.specs.declared.control.Phase.{Phase}
 use Rattle.store.specs.declared.control.Phase.TheVariants.{Idle, Shown}
 use Rattle.store.specs.declared.control.Control.{Control}
+use Rattle.store.specs.Regions.{wrap}
 
 abbrev pub memory_words : ℕ
 memory_words = 147520
@@ -24,24 +25,9 @@ phase_number Shown = 1
 abbrev pub control : Phase → ℕ → ℕ → Memtable → Control
 control p n l t = record { phase = p; pages = n; last = l; table = t }
 
-abbrev pub wrap : ℕ → ℕ
-wrap n = n % 18446744073709551616
-
 unfoldable pub control_of : List ℕ → Control
 control_of m = control (phase_of (slice_index m 0)) (slice_index m 1) (slice_index m 2) (memtable (slice_index m 3) (slice_index m 4) (slice_index m 5))
 
 unfoldable pub put_control : List ℕ → Control → List ℕ
 put_control m k =
     slice_set (slice_set (slice_set (slice_set (slice_set (slice_set m 0 (phase_number k.phase)) 1 (wrap k.pages)) 2 (wrap k.last)) 3 (wrap k.table.versions)) 4 (wrap k.table.used)) 5 (wrap k.table.weight)
-
-unfoldable pub region : ℕ → ℕ → List ℕ → List ℕ
-region a n m = take n (drop a m)
-
-unfoldable pub within : ℕ → ℕ → (List ℕ → List ℕ) → List ℕ → List ℕ
-within a n f m = take a m ++ (f (region a n m) ++ drop n (drop a m))
-
-abbrev pub index_of : List ℕ → List ℕ
-index_of m = region 64 16384 m
-
-abbrev pub arena_of : List ℕ → List ℕ
-arena_of m = region 16448 131072 m

@@ -4,7 +4,11 @@ pub mod Promise
 pub mod Account
 pub mod Control
 pub mod Acts
+pub mod Regions
+pub mod Checks
+pub mod Shown
 pub mod Write
 pub mod Get
 pub mod Own
+pub mod Event
 pub mod Entry

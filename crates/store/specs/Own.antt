@@ -7,7 +7,8 @@ use Rattle.memtable.specs.Memtable.{none}
 use Rattle.store.specs.House.{Command, write, erase, get, range, first_key, last_key, count, flush, compact}
 use Rattle.store.specs.Promise.{Engine, Event, on, said, page, next, Step, done, refused, Whole}
 use Rattle.store.specs.Control.{memory_words, control, control_of, put_control}
-use Rattle.store.specs.Write.{stepped, wrote}
+use Rattle.store.specs.Write.{wrote}
+use Rattle.store.specs.Acts.{stepped}
 use Rattle.store.specs.Get.{got}
 use Rattle.store.specs.declared.control.Phase.{Phase}
 use Rattle.store.specs.declared.control.Phase.TheVariants.{Idle, Shown}

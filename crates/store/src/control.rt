@@ -1,16 +1,22 @@
 // What the machine knows between steps, in the first words of its memory.
-ghost use Rattle.std.specs.Prelude.{◌≡◌, ◌≤◌, length};
-ghost use Rattle.store.specs.Control.{phase_of, phase_number, control_of, put_control};
+ghost use Rattle.std.specs.Prelude.{◌≡◌};
+ghost use Rattle.store.specs.Control.{control_of, put_control};
 
 use memtable::Memtable;
+
+// How many numbers the machine's memory has.
+pub const MEMORY: usize = 147520;
+
+// How many numbers a step may tell, in a lent row.
+pub const ROW: usize = 1280;
 
 // What is under way between two events.
 #[derive(Clone, Copy)]
 pub enum Phase {
     // Nothing: a command may come.
-    Idle,
+    Idle = 0,
     // The row that a get shows was told.
-    Shown,
+    Shown = 1,
 }
 
 #[derive(Clone, Copy)]
@@ -22,30 +28,36 @@ pub struct Control {
     pub table: Memtable,
 }
 
-fn phase_from(n: u64) -> Phase
-    ensures { result ≡ phase_of n }
-{
-    match n {
-        1 => Phase::Shown,
-        _ => Phase::Idle,
+impl From<u64> for Phase {
+    ghost use Rattle.std.specs.Prelude.{◌≡◌};
+    ghost use Rattle.store.specs.Control.{phase_of};
+
+    ghost from_gives = { λ n phase. phase ≡ phase_of n };
+
+    fn from(n: u64) -> Phase {
+        match n {
+            1 => Phase::Shown,
+            _ => Phase::Idle,
+        }
     }
 }
 
-fn phase_word(phase: Phase) -> u64
-    ensures { result ≡ phase_number phase }
-{
-    match phase {
-        Phase::Idle => 0,
-        Phase::Shown => 1,
+impl From<Phase> for u64 {
+    ghost use Rattle.std.specs.Prelude.{◌≡◌};
+    ghost use Rattle.store.specs.Control.{phase_number};
+
+    ghost from_gives = { λ phase n. n ≡ phase_number phase };
+
+    fn from(phase: Phase) -> u64 {
+        phase as u64
     }
 }
 
-pub fn load(memory: &[u64]) -> Control
-    requires { length memory.now ≡ 147520 }
+pub fn load(memory: &[u64; MEMORY]) -> Control
     ensures { result ≡ control_of memory.now }
 {
     Control {
-        phase: phase_from(memory[0]),
+        phase: Phase::from(memory[0]),
         pages: memory[1],
         last: memory[2],
         table: Memtable {
@@ -56,11 +68,10 @@ pub fn load(memory: &[u64]) -> Control
     }
 }
 
-pub fn save(memory: &mut [u64], control: Control)
-    requires { length memory.old ≡ 147520 }
+pub fn save(memory: &mut [u64; MEMORY], control: Control)
     ensures { memory.new ≡ put_control memory.old control }
 {
-    memory[0] = phase_word(control.phase);
+    memory[0] = u64::from(control.phase);
     memory[1] = control.pages;
     memory[2] = control.last;
     memory[3] = control.table.versions;

@@ -1,33 +1,21 @@
 // One step of the machine, as the world outside calls it: events by number, acts by an enum and a lent row.
-ghost use Rattle.std.specs.Prelude.{◌≡◌, ℕ, ◌≤◌, List, length};
-ghost use Rattle.store.specs.Get.{Got};
-ghost use Rattle.store.specs.Own.{powered, went_on, turned};
-ghost use Rattle.store.specs.Entry.{StepSays, step_fits, event_of};
+ghost use Rattle.std.specs.Prelude.{◌≡◌, ℕ, List, length};
+ghost use Rattle.store.specs.Acts.{Does, Quiet};
+ghost use Rattle.store.specs.Event.{meaning};
+ghost use Rattle.store.specs.Own.{powered, went_on, turned, own};
+ghost use Rattle.store.specs.Entry.{StepSays, step_fits};
 
-use crate::control::{Control, Phase, load, save};
+use crate::control::{Control, MEMORY, Phase, ROW, load, save};
+use crate::event::Event;
 use crate::get::get;
-use crate::told::Told;
+use crate::told::{Refusal, Told};
 use crate::write::write;
 use memtable::empty;
-
-// How many numbers the machine's memory has.
-pub const MEMORY: usize = 147520;
-
-// Are the rows of the lengths that a step takes?
-fn fits(memory: &[u64], kind: u64, one: &[u8], two: &[u8], out: &[u64]) -> bool
-    ensures { result ≡ step_fits memory.now kind one.now two.now out.now }
-{
-    memory.len() == MEMORY
-        && kind <= 12
-        && one.len() <= 4096
-        && two.len() <= 4096
-        && out.len() >= 1280
-}
+use value::Version;
 
 // Power is there: nothing is kept yet.
-fn power(memory: &mut [u64], pages: u64) -> Told
-    requires { length memory.old ≡ 147520 }
-    ensures { (out : List ℕ) → Got (powered memory.old pages) result out memory.new out }
+fn power(memory: &mut [u64; MEMORY], pages: u64) -> Told
+    ensures { Quiet (powered memory.old pages) result memory.new }
 {
     save(
         memory,
@@ -42,9 +30,8 @@ fn power(memory: &mut [u64], pages: u64) -> Told
 }
 
 // Goes on with what is under way.
-fn go_on(memory: &mut [u64], control: Control) -> Told
-    requires { length memory.old ≡ 147520 }
-    ensures { (out : List ℕ) → Got (went_on control memory.old control.phase) result out memory.new out }
+fn go_on(memory: &mut [u64; MEMORY], control: Control) -> Told
+    ensures { Quiet (went_on control memory.old control.phase) result memory.new }
 {
     match control.phase {
         Phase::Shown => {
@@ -57,38 +44,59 @@ fn go_on(memory: &mut [u64], control: Control) -> Told
             );
             Told::Done
         }
-        Phase::Idle => Told::No(2),
+        Phase::Idle => Told::No(Refusal::Unknown as u64),
     }
 }
 
 fn take_turn(
-    memory: &mut [u64],
+    memory: &mut [u64; MEMORY],
     control: Control,
-    kind: u64,
-    n: u64,
-    one: &[u8],
-    two: &[u8],
-    out: &mut [u64],
+    event: Event<'_>,
+    out: &mut [u64; ROW],
 ) -> Told
-    requires { (length memory.old ≡ 147520) × ((1280 ≤ length out.old) × (kind ≤ 12)) }
-    ensures { Got (turned control memory.old (event_of kind n one.now two.now)) result out.old memory.new out.new }
+    ensures whole { length out.new ≡ length out.old }
+    ensures says { Does (turned control memory.old (meaning event.entry)) result out.old memory.new out.new }
 {
-    match kind {
-        0 => power(memory, n),
-        1 => write(memory, control, one, n, false, two),
-        2 => write(memory, control, one, n, true, &[]),
-        3 => get(memory, control, one, n, out),
-        12 => go_on(memory, control),
-        _ => Told::No(2),
+    match event {
+        Event::On(pages) => power(memory, pages),
+        Event::Write(key, moment, value) => write(
+            memory,
+            control,
+            Version {
+                key,
+                moment,
+                gone: false,
+                value,
+            },
+        ),
+        Event::Erase(key, moment) => write(
+            memory,
+            control,
+            Version {
+                key,
+                moment,
+                gone: true,
+                value: &[],
+            },
+        ),
+        Event::Get(key, moment) => get(memory, control, key, moment, out),
+        Event::Next => go_on(memory, control),
+        _ => Told::No(Refusal::Unknown as u64),
     }
 }
 
 pub fn step(memory: &mut [u64], kind: u64, n: u64, one: &[u8], two: &[u8], out: &mut [u64]) -> Told
-    ensures { StepSays memory.old kind n one.now two.now out.old (step_fits memory.old kind one.now two.now out.old) result memory.new out.new }
+    ensures { StepSays own memory.old kind n one.now two.now out.old (step_fits own memory.old kind one.now two.now out.old) result memory.new out.new }
 {
-    if !fits(memory, kind, one, two, out) {
-        return Told::No(0);
-    }
+    let Some(memory) = memory.as_mut_array::<MEMORY>() else {
+        return Told::No(Refusal::Misfit as u64);
+    };
+    let Some(out) = out.first_chunk_mut::<ROW>() else {
+        return Told::No(Refusal::Misfit as u64);
+    };
+    let Some(event) = Event::numbered(kind, n, one, two) else {
+        return Told::No(Refusal::Misfit as u64);
+    };
     let control = load(memory);
-    take_turn(memory, control, kind, n, one, two, out)
+    take_turn(memory, control, event, out)
 }

@@ -7,5 +7,25 @@ pub enum Told {
     // So many numbers.
     Tells(u64),
     Done,
+    // Refused, with the number of a refusal.
     No(u64),
+}
+
+// Why the machine refuses.
+#[derive(Clone, Copy)]
+pub enum Refusal {
+    // Memory or a row is not of the length that a step takes.
+    Misfit = 0,
+    // The command is not known yet, or what came was not asked for.
+    Unknown = 2,
+    // The moment is below the last write's, or the key was written at it.
+    Moment = 3,
+    // The moment is below the last that was compacted, or, to compact, above the last write's.
+    Compacted = 4,
+    // The key, the value or the moment is outside the limits.
+    Limits = 6,
+    // What is not safe would weigh too much.
+    Unsafe = 7,
+    // What has to be kept would weigh too much for the pages.
+    Full = 8,
 }

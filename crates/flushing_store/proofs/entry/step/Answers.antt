@@ -1,15 +1,21 @@
-use Rattle.std.proofs.Common.{rules}
-use Rattle.flushing_store.proofs.EntryLaws.{fits_all, misfit_says, turn_says}
+use Rattle.std.proofs.Common.{refl}
+use Rattle.flushing_store.specs.Own.{own}
+use Rattle.store.proofs.EntryLaws.{memory_says, row_says, event_says, turn_says}
+use Rattle.flushing_store.proofs.EntryLaws.{start_length, own_does}
+use Rattle.store.proofs.ToldLaws.{front_same}
 use Rattle.flushing_store.proofs.entry.step.Goals as goal
 
-pub returns-then-not-fits : goal.returns-then-not-fits
-returns-then-not-fits c = search (rules, misfit_says)
+pub returns-in_default : goal.returns-in_default
+returns-in_default c = memory_says own _ start_length _ _ _ _ _ _ _ _ c.in_default.ensures.cases refl refl
 
-pub load-control-requires : goal.load-control-requires
-load-control-requires c = (fits_all _ _ _ _ _ c.if-not-fits.ensures).memory
+pub returns-in_default-first_chunk_mut : goal.returns-in_default-first_chunk_mut
+returns-in_default-first_chunk_mut c = row_says own _ start_length _ _ _ _ _ _ _ _ c.in_default-first_chunk_mut.ensures.cases c.in-Some.ensures.cases.same refl
 
-pub take_turn-requires : goal.take_turn-requires
-take_turn-requires c = let f = fits_all _ _ _ _ _ c.if-not-fits.ensures in (f.memory, (f.room, f.kinds))
+pub returns-in_default-numbered : goal.returns-in_default-numbered
+returns-in_default-numbered c =
+    event_says own _ start_length _ _ _ _ _ _ _ _ c.in_default-numbered.ensures c.in-Some.ensures.cases.same (front_same _ _ _ c.in-Some-first_chunk_mut.ensures.cases)
 
 pub returns : goal.returns
-returns c = turn_says _ _ _ _ _ _ _ _ _ c.load-control.result c.if-not-fits.ensures c.load-control.ensures c.take_turn.ensures
+returns c =
+    turn_says own _ start_length _ _ _ _ _ _ _ _ _ _ c.in-Some.ensures.cases.long c.in-Some-first_chunk_mut.ensures.cases c.take_turn.ensures.whole c.in-Some-numbered.ensures.0
+    (own_does _ _ _ _ _ _ _ _ _ _ c.load-control.result c.in-Some-numbered.event c.in-Some.ensures.cases c.load-control.ensures c.in-Some-numbered.ensures.1 c.take_turn.ensures.says)

@@ -1,29 +1,36 @@
-use Rattle.std.proofs.Common.{arith}
-use Rattle.flushing_store.proofs.EntryLaws.{power_turn, write_turn, erase_turn, get_turn, flush_turn, page_turn, next_turn, other_turn}
+use Rattle.flushing_store.specs.Own.{heard, turned}
+use Rattle.flushing_store.proofs.EntryLaws.{other_turn}
 use Rattle.flushing_store.proofs.entry.take_turn.Goals as goal
 
-pub returns-in-0 : goal.returns-in-0
-returns-in-0 c = power_turn c.args.control c.args.memory.now c.args.kind c.args.n c.args.one.now c.args.two.now c.args.out.now _ _ c.in-0.is c.power.ensures
+pub returns-in-On-clause-says : goal.returns-in-On-clause-says
+unfolding turned heard
+returns-in-On-clause-says c = rw c.in-On.is (c.power.ensures.0, c.power.ensures.1 c.args.out.now)
 
-pub returns-in-1 : goal.returns-in-1
-returns-in-1 c = write_turn c.args.control c.args.memory.now c.args.kind c.args.n c.args.one.now c.args.two.now c.args.out.now _ _ c.in-1.is c.write.ensures
+pub returns-in-Write-clause-says : goal.returns-in-Write-clause-says
+unfolding turned heard
+returns-in-Write-clause-says c = rw c.in-Write.is (c.write.ensures.0, c.write.ensures.1 c.args.out.now)
 
-pub returns-in-2 : goal.returns-in-2
-returns-in-2 c = erase_turn c.args.control c.args.memory.now c.args.kind c.args.n c.args.one.now c.args.two.now c.args.out.now _ _ c.in-2.is c.write-in-2.ensures
+pub returns-in-Erase-clause-says : goal.returns-in-Erase-clause-says
+unfolding turned heard
+returns-in-Erase-clause-says c = rw c.in-Erase.is (c.write-in-Erase.ensures.0, c.write-in-Erase.ensures.1 c.args.out.now)
 
-pub returns-in-3 : goal.returns-in-3
-returns-in-3 c = get_turn c.args.control c.args.memory.now c.args.kind c.args.n c.args.one.now c.args.two.now c.args.out.now _ _ _ c.in-3.is c.get.ensures
+pub returns-in-Get-clause-says : goal.returns-in-Get-clause-says
+unfolding turned heard
+returns-in-Get-clause-says c = rw c.in-Get.is c.get.ensures
 
-pub returns-in-9 : goal.returns-in-9
-returns-in-9 c = flush_turn c.args.control c.args.memory.now c.args.kind c.args.n c.args.one.now c.args.two.now c.args.out.now _ _ _ c.in-9.is c.flush.ensures
+pub returns-in-Flush-clause-says : goal.returns-in-Flush-clause-says
+unfolding turned heard
+returns-in-Flush-clause-says c = rw c.in-Flush.is c.flush.ensures
 
-pub returns-in-11 : goal.returns-in-11
-returns-in-11 c = page_turn c.args.control c.args.memory.now c.args.kind c.args.n c.args.one.now c.args.two.now c.args.out.now _ _ _ c.in-11.is c.take_page.ensures
+pub returns-in-Page-clause-says : goal.returns-in-Page-clause-says
+unfolding turned heard
+returns-in-Page-clause-says c = rw c.in-Page.is c.take_page.ensures
 
-pub returns-in-12 : goal.returns-in-12
-returns-in-12 c = next_turn c.args.control c.args.memory.now c.args.kind c.args.n c.args.one.now c.args.two.now c.args.out.now _ _ _ c.in-12.is c.go_on.ensures
+pub returns-in-Next-clause-says : goal.returns-in-Next-clause-says
+unfolding turned heard
+returns-in-Next-clause-says c = rw c.in-Next.is c.go_on.ensures
 
-pub returns-in_default : goal.returns-in_default
-returns-in_default c =
-    other_turn c.args.control c.args.memory.now c.args.kind c.args.n c.args.one.now c.args.two.now c.args.out.now c.requires.1.1 (λ e. omega arith) (λ e. omega arith) (λ e. omega arith)
-    (λ e. omega arith) (λ e. omega arith) (λ e. omega arith) (λ e. omega arith)
+pub returns-in_default-clause-says : goal.returns-in_default-clause-says
+returns-in_default-clause-says c =
+    let r = c.in_default in
+    other_turn c.args.control c.args.memory.now c.args.out.now c.args.event r.not-On r.not-Write r.not-Erase r.not-Get r.not-Flush r.not-Page r.not-Next

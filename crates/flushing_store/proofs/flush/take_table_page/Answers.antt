@@ -1,8 +1,9 @@
 use Rattle.std.proofs.Common.{◌≡◌, ap, ◌∙◌}
 use Rattle.table.specs.Cursor.{wanted, list_with, ring_with}
-use Rattle.flushing_store.specs.Control.{region, list_of}
+use Rattle.flushing_store.specs.Control.{list_of}
+use Rattle.store.specs.Regions.{region}
 use Rattle.flushing_store.specs.Look.{extent_of}
-use Rattle.flushing_store.proofs.WithinLaws.{within_is}
+use Rattle.store.proofs.RegionLaws.{within_is}
 use Rattle.flushing_store.proofs.FlushLaws.{Took, took_list, took_ring, took_head, took_end}
 use Rattle.flushing_store.proofs.flush.take_table_page.Goals as goal
 use Rattle.flushing_store.proofs.flush.take_table_page.Goals.{in-Positions, in-Data, in-Head, in-End}

@@ -2,9 +2,10 @@ use Rattle.std.proofs.Common.{◌≡◌, ◌++◌, length, drop, sym, ap, ◌∙
 use Rattle.value.specs.Encoding.{key_at, value_at}
 use Rattle.memtable.specs.Arena.{key_at as key_in}
 use Rattle.table.specs.Lookup.{loaded}
-use Rattle.flushing_store.specs.Control.{region, stage_region}
+use Rattle.flushing_store.specs.Control.{stage_region}
+use Rattle.store.specs.Regions.{region}
 use Rattle.flushing_store.specs.Look.{looked}
-use Rattle.flushing_store.specs.Shown.{row_of}
+use Rattle.store.specs.Shown.{row_of}
 use Rattle.flushing_store.proofs.GetLaws.{looked_for, get_on, get_missing, get_gone, get_shown}
 use Rattle.flushing_store.proofs.get.end_get.Goals as goal
 
@@ -43,7 +44,7 @@ returns-else-place c =
     let l = c.args.lookup in
     let p = c.in-Found.place in
     let e : c.look_staged.result ≡ looked_for k m l = c.look_staged.ensures ∙ (λ i. looked l (c.extent_of-extent.ensures i) (c.read_octets.ensures i) (key_in (stage_region m) 0) (c.moment_at-moment.ensures i)) in
-    let b = c.loaded.ensures ∙ ap (loaded l) c.read_octets.ensures in
+    let b = c.loaded-block.ensures ∙ ap (loaded l) c.read_octets.ensures in
+    let q = (λ i. row_of (c.key_of.ensures i) (c.value_of.ensures i)) ∙ ap (λ x. row_of (key_at x p) (value_at x p)) b in
     get_shown k m l c.args.out.now _ p _ _ (sym e ∙ c.in-Found.is) c.if-place.false c.turn_to-in-Found.ensures
-    (c.write_place-len.ensures.len ∙ ap (λ x. length (row_of (key_at x p) (value_at x p))) b)
-    (c.write_place-len.ensures.row ∙ ap (λ x. row_of (key_at x p) (value_at x p) ++ drop (length (row_of (key_at x p) (value_at x p))) c.args.out.now) b)
+    (c.write_shown-len.ensures.len ∙ ap length q) (c.write_shown-len.ensures.row ∙ ap (λ x. x ++ drop (length x) c.args.out.now) q)

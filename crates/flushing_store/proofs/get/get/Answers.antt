@@ -1,5 +1,5 @@
 use Rattle.std.proofs.Common.{sym, ◌∙◌}
-use Rattle.flushing_store.specs.Control.{region}
+use Rattle.store.specs.Regions.{region}
 use Rattle.flushing_store.proofs.GetLaws.{nothing_found, gone_found, value_found}
 use Rattle.flushing_store.proofs.get.get.Goals as goal
 

@@ -2,7 +2,7 @@ use Rattle.std.proofs.Common.{take, drop, ap, ◌∙◌, eq-eqb, ne_eqb}
 use Rattle.table.specs.Layout.{entry}
 use Rattle.flushing_store.specs.Octets.{put_octets}
 use Rattle.flushing_store.specs.Give.{ended_block}
-use Rattle.flushing_store.proofs.WithinLaws.{within_is}
+use Rattle.store.proofs.RegionLaws.{within_is}
 use Rattle.flushing_store.proofs.give.end_block.Goals as goal
 
 pub returns-then-writer-eq0 : goal.returns-then-writer-eq0

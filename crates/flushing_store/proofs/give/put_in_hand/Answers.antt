@@ -1,6 +1,6 @@
 use Rattle.flushing_store.specs.Octets.{put_octets}
 use Rattle.flushing_store.specs.Give.{in_hand}
-use Rattle.flushing_store.proofs.WithinLaws.{within_is}
+use Rattle.store.proofs.RegionLaws.{within_is}
 use Rattle.flushing_store.proofs.give.put_in_hand.Goals as goal
 
 pub returns : goal.returns

@@ -2,7 +2,7 @@ use Rattle.std.proofs.Common.{◌≡◌, ap, ◌∙◌}
 use Rattle.value.specs.Versions.{version}
 use Rattle.value.specs.Encoding.{version_at}
 use Rattle.table.specs.Cursor.{advanced}
-use Rattle.flushing_store.specs.Control.{region}
+use Rattle.store.specs.Regions.{region}
 use Rattle.flushing_store.proofs.RoundLaws.{table_none, table_some}
 use Rattle.flushing_store.proofs.heads.give_table.Goals as goal
 

@@ -1,5 +1,5 @@
 use Rattle.std.proofs.Common.{rules}
-use Rattle.flushing_store.specs.Control.{region}
+use Rattle.store.specs.Regions.{region}
 use Rattle.flushing_store.proofs.heads.memory_head.Goals as goal
 
 pub returns-then-control : goal.returns-then-control

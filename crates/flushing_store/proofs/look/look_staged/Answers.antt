@@ -1,8 +1,8 @@
 use Rattle.std.proofs.Common.{ap, ◌∙◌}
-use Rattle.flushing_store.specs.Control.{region}
+use Rattle.store.specs.Regions.{region}
 use Rattle.flushing_store.specs.Look.{looked}
 use Rattle.flushing_store.proofs.look.look_staged.Goals as goal
 
 pub returns : goal.returns
 unfolding region
-returns c = c.look.ensures ∙ ap (λ k. looked c.args.lookup c.args.extent c.args.row.now k c.args.moment) (c.part_of.ensures ∙ c.read_key-len.ensures)
+returns c = c.look.ensures ∙ ap (λ k. looked c.args.lookup c.args.extent c.args.row.now k c.args.moment) (c.as_slice.ensures ∙ c.read_key-key.ensures)

@@ -1,7 +1,7 @@
 use Rattle.std.proofs.Common.{refl}
 use Rattle.table.specs.Load.{placed}
 use Rattle.flushing_store.specs.Look.{page_in}
-use Rattle.flushing_store.proofs.WithinLaws.{within_is}
+use Rattle.store.proofs.RegionLaws.{within_is}
 use Rattle.flushing_store.proofs.look.take_page.Goals as goal
 
 pub returns : goal.returns

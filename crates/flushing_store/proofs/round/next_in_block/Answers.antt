@@ -1,6 +1,7 @@
 use Rattle.std.proofs.Common.{◌≡◌, replicate, refl}
 use Rattle.table.specs.Cursor.{listed_entry}
-use Rattle.flushing_store.specs.Control.{region, list_of, ring_of}
+use Rattle.flushing_store.specs.Control.{list_of, ring_of}
+use Rattle.store.specs.Regions.{region}
 use Rattle.flushing_store.specs.Round.{block_in}
 use Rattle.flushing_store.proofs.RoundLaws.{ring_front, block_is}
 use Rattle.flushing_store.proofs.round.next_in_block.Goals as goal

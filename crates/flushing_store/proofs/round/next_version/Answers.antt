@@ -1,6 +1,7 @@
 use Rattle.std.proofs.Common.{◌≡◌, ap, ◌∙◌}
 use Rattle.table.specs.Cursor.{wanted}
-use Rattle.flushing_store.specs.Control.{region, list_of}
+use Rattle.flushing_store.specs.Control.{list_of}
+use Rattle.store.specs.Regions.{region}
 use Rattle.flushing_store.specs.Look.{extent_of}
 use Rattle.flushing_store.proofs.RoundLaws.{next_positions, next_data, next_head, next_end}
 use Rattle.flushing_store.proofs.round.next_version.Goals as goal

@@ -1,6 +1,7 @@
 use Rattle.std.proofs.Common.{◌≡◌, ◌+◌, sym, ◌∙◌, eq-eqb, ne_eqb}
 use Rattle.memtable.specs.Arena.{key_at as key_in, moment_at}
-use Rattle.flushing_store.specs.Control.{region, wrap, stage_region}
+use Rattle.flushing_store.specs.Control.{stage_region}
+use Rattle.store.specs.Regions.{region, wrap}
 use Rattle.flushing_store.specs.Look.{looked}
 use Rattle.store.specs.declared.told.Told.TheVariants.{No}
 use Rattle.flushing_store.proofs.WriteLaws.{looked_for, write_on, write_missing, write_other, write_same}

@@ -5,8 +5,8 @@ use Rattle.store.proofs.entry.go_on.Goals as goal
 
 pub returns-in-Shown : goal.returns-in-Shown
 unfolding went_on ActTold
-returns-in-Shown c = λ out. rw c.in-Shown.is (c.save.ensures, (refl, refl))
+returns-in-Shown c = rw c.in-Shown.is (c.save.ensures, λ out. (refl, refl))
 
 pub returns-in-Idle : goal.returns-in-Idle
 unfolding went_on ActTold
-returns-in-Idle c = λ out. rw c.in-Idle.is (refl, (refl, refl))
+returns-in-Idle c = rw c.in-Idle.is (refl, λ out. (refl, refl))

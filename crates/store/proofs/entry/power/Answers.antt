@@ -7,4 +7,4 @@ use Rattle.store.proofs.entry.power.Goals as goal
 
 pub returns : goal.returns
 unfolding powered ActTold
-returns c = λ out. (c.save.ensures ∙ ap (λ t. put_control c.args.memory.now (control Idle c.args.pages 0 t)) c.empty.ensures, (refl, refl))
+returns c = (c.save.ensures ∙ ap (λ t. put_control c.args.memory.now (control Idle c.args.pages 0 t)) c.empty.ensures, λ out. (refl, refl))

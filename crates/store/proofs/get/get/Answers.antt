@@ -1,5 +1,5 @@
 use Rattle.std.proofs.Common.{sym, ◌∙◌}
-use Rattle.store.specs.Control.{region}
+use Rattle.store.specs.Regions.{region}
 use Rattle.store.proofs.GetLaws.{nothing_found, gone_found, value_found}
 use Rattle.store.proofs.get.get.Goals as goal
 
