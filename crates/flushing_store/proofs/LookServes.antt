@@ -10,7 +10,7 @@ use Rattle.memtable.proofs.SteadyLaws.{append_keeps}
 use Rattle.table.specs.Device.{Device, Page, page_at, read_page}
 use Rattle.table.specs.Blocks.{no_bound}
 use Rattle.table.specs.Stream.{payload}
-use Rattle.table.specs.Load.{placed}
+use Rattle.table.specs.Load.{placed, placed_at}
 use Rattle.table.specs.Row.{octets}
 use Rattle.table.specs.Lookup.{Looking, with_page}
 use Rattle.table.specs.declared.lookup.Lookup.{Lookup}
@@ -71,7 +71,7 @@ held_staged pages h f p m v o =
 
 -- A PAGE COMES
 length_placed : (got : ℕ) (p row : List ℕ) → length row ≡ 2016 → length (placed got p row) ≡ 2016
-unfolding placed
+unfolding placed_at
 length_placed got p row l = go (ltb got 4 && leb 2016 (length row)) refl
   where
     go : (b : Bool) → (ltb got 4 && leb 2016 (length row)) ≡ b → length (pick b (put_at (504 * got) (payload p) row) row) ≡ 2016
@@ -92,7 +92,7 @@ payload_cut ps k a =
     (λ h. subst (λ p. payload (octets 512 p) ≡ payload p) (sym (page_none ps k h)) payload_none) (cases_lt k (length ps))
 
 pub page_in_cut : (ps : List Page) (k : ℕ) (l : Lookup) (m : List ℕ) → AllPages ps → page_in l (octets 512 (page_at ps k)) m ≡ page_in l (page_at ps k) m
-unfolding page_in placed
+unfolding page_in placed_at
 page_in_cut ps k l m a = ap (λ y. within 147682 2016 (λ row. pick (ltb l.load.got 4 && leb 2016 (length row)) (put_at (504 * l.load.got) y row) row) m) (payload_cut ps k a)
 
 module _ (l : Lookup) (p m : List ℕ) (long : length m ≡ memory_words) where

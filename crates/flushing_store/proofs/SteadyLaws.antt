@@ -13,7 +13,7 @@ use Rattle.memtable.specs.declared.memtable.Memtable.{Memtable}
 use Rattle.memtable.proofs.SteadyLaws.{append_keeps, enter_keeps}
 use Rattle.table.specs.Row.{octets}
 use Rattle.table.specs.Stream.{payload}
-use Rattle.table.specs.Load.{wanted as page_wanted, placed}
+use Rattle.table.specs.Load.{wanted as page_wanted, placed, placed_at}
 use Rattle.table.specs.Lookup.{begun, with_page, loaded}
 use Rattle.table.specs.Layout.{entry}
 use Rattle.table.specs.Writing.{begins, due_of}
@@ -92,7 +92,7 @@ octets_part at bs row = go (leb (at + length bs) (length row)) refl
     go false e = same_part row
 
 placed_part : (n : ℕ) (p row : List ℕ) → all_small p ≡ true → Part row (placed n p row)
-unfolding placed
+unfolding placed_at
 placed_part n p row a = go (ltb n 4 && leb 2016 (length row)) refl
   where
     go : (b : Bool) → (ltb n 4 && leb 2016 (length row)) ≡ b → Part row (pick b (put_at (504 * n) (payload p) row) row)
