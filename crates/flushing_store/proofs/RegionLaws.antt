@@ -11,7 +11,8 @@ use Rattle.manifest.specs.Manifest.{half_number, half_of, flag, Fits}
 use Rattle.manifest.specs.declared.fields.Half.{Half}
 use Rattle.manifest.specs.declared.fields.Half.TheVariants.{First, Second}
 use Rattle.manifest.specs.declared.fields.Manifest.{Manifest}
-use Rattle.flushing_store.specs.Control.{memory_words, wraps, base, merging, phase_of, phase_number, stage_of, stage_number, base_words, base_from, manifest_words, manifest_from, lookup_words, lookup_from, merging_words, merging_from, control_of, put_control}
+use Rattle.table.specs.Stages.{stage_of, stage_number}
+use Rattle.flushing_store.specs.Control.{memory_words, wraps, base, merging, phase_of, phase_number, base_words, base_from, manifest_words, manifest_from, lookup_words, lookup_from, merging_words, merging_from, control_of, put_control}
 use Rattle.store.specs.Regions.{region, within, wrap}
 use Rattle.store.proofs.RegionLaws.{length_within, region_same, region_above, region_below}
 use Rattle.flushing_store.specs.declared.control.Phase.{Phase}

@@ -11,8 +11,7 @@ use Rattle.memtable.specs.Memtable.{memtable}
 use Rattle.memtable.specs.declared.memtable.Memtable.{Memtable}
 use Rattle.table.specs.declared.cursor.Cursor.{Cursor}
 use Rattle.table.specs.declared.lookup.Lookup.{Lookup}
-use Rattle.table.specs.declared.lookup.Stage.{Stage}
-use Rattle.table.specs.declared.lookup.Stage.TheVariants.{Entry, Head, Block}
+use Rattle.table.specs.Stages.{stage_of, stage_number}
 use Rattle.table.specs.declared.writer.Writer.{Writer}
 use Rattle.table.specs.Writing.{writer}
 use Rattle.manifest.specs.Manifest.{half_number, half_of, flag}
@@ -72,14 +71,6 @@ phase_number Placed = 9
 phase_number Settled = 10
 phase_number Listed = 11
 phase_number Committed = 12
-
-abbrev pub stage_of : ℕ → Stage
-stage_of n = pick (n == 1) Head (pick (n == 2) Block Entry)
-
-abbrev pub stage_number : Stage → ℕ
-stage_number Entry = 0
-stage_number Head = 1
-stage_number Block = 2
 
 abbrev pub base : Phase → ℕ → ℕ → Memtable → Base
 base p n l t = record { phase = p; pages = n; last = l; table = t }

@@ -1,8 +1,7 @@
 // The machine's control state in the first 48 words of its memory.
 ghost use Rattle.std.specs.Prelude.{◌≡◌, ℕ, ◌+◌, ◌≤◌, List, length};
 ghost use Rattle.store.specs.Regions.{region, within};
-ghost use Rattle.flushing_store.specs.Control.{stage_of, stage_number, base_from, manifest_from, lookup_from, merging_from, wraps, base_words, manifest_words, lookup_words, merging_words, control_of, put_control, to_phase};
-ghost use Rattle.manifest.specs.Manifest.{half_of, half_number};
+ghost use Rattle.flushing_store.specs.Control.{base_from, manifest_from, lookup_from, merging_from, wraps, base_words, manifest_words, lookup_words, merging_words, control_of, put_control, to_phase};
 
 use crate::control::{Base, Control, MEMORY, Merging, Phase};
 use manifest::{Half, Layout, Manifest, Moments, Table, Weight};
@@ -55,42 +54,6 @@ impl From<Phase> for u64 {
 
     fn from(phase: Phase) -> u64 {
         phase as u64
-    }
-}
-
-// The stage and the half are of crates below, so that `From` cannot be implemented for them here.
-fn stage_from(n: u64) -> Stage
-    ensures { result ≡ stage_of n }
-{
-    match n {
-        1 => Stage::Head,
-        2 => Stage::Block,
-        _ => Stage::Entry,
-    }
-}
-
-fn stage_word(stage: Stage) -> u64
-    ensures { result ≡ stage_number stage }
-{
-    match stage {
-        Stage::Entry => 0,
-        Stage::Head => 1,
-        Stage::Block => 2,
-    }
-}
-
-fn half_from(n: u64) -> Half
-    ensures { result ≡ half_of n }
-{
-    if n == 1 { Half::Second } else { Half::First }
-}
-
-fn half_word(half: Half) -> u64
-    ensures { result ≡ half_number half }
-{
-    match half {
-        Half::First => 0,
-        Half::Second => 1,
     }
 }
 
@@ -151,7 +114,7 @@ impl Words<15> for Manifest {
             commit: row[0],
             layout: Layout {
                 pages: row[1],
-                half: half_from(row[2]),
+                half: Half::from(row[2]),
                 free: row[3],
             },
             moments: Moments {
@@ -171,7 +134,7 @@ impl Words<15> for Manifest {
         [
             self.commit,
             self.layout.pages,
-            half_word(self.layout.half),
+            u64::from(self.layout.half),
             self.layout.free,
             self.moments.last,
             self.moments.low,
@@ -197,7 +160,7 @@ impl Words<12> for Lookup {
         ensures { result ≡ lookup_from row }
     {
         Lookup {
-            stage: stage_from(row[0]),
+            stage: Stage::from(row[0]),
             search: Search {
                 low: row[1],
                 high: row[2],
@@ -224,7 +187,7 @@ impl Words<12> for Lookup {
 
     fn into_words(self) -> [u64; 12] {
         [
-            stage_word(self.stage),
+            u64::from(self.stage),
             self.search.low,
             self.search.high,
             self.entry.begin,

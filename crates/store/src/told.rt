@@ -1,4 +1,7 @@
-// What the machine asks of the world, or how a command ended.
+// What the machine asks of the world, or how a command ended; and why it refuses.
+ghost use Rattle.std.specs.Prelude.{◌≡◌};
+ghost use Rattle.store.specs.Refusals.{refusal_of};
+
 #[derive(Clone, Copy)]
 pub enum Told {
     Read(u64),
@@ -12,7 +15,7 @@ pub enum Told {
 }
 
 // Why the machine refuses.
-#[derive(Clone, Copy)]
+#[derive(Clone, Copy, Debug, PartialEq, Eq)]
 pub enum Refusal {
     // Memory or a row is not of the length that a step takes.
     Misfit = 0,
@@ -28,4 +31,24 @@ pub enum Refusal {
     Unsafe = 7,
     // What has to be kept would weigh too much for the pages.
     Full = 8,
+}
+
+// The refusal with a number; an error is the number that none has.
+impl TryFrom<u64> for Refusal {
+    type Error = u64;
+
+    ghost try_from_gives = { λ n r. r ≡ refusal_of n };
+
+    fn try_from(n: u64) -> Result<Refusal, u64> {
+        match n {
+            0 => Ok(Refusal::Misfit),
+            2 => Ok(Refusal::Unknown),
+            3 => Ok(Refusal::Moment),
+            4 => Ok(Refusal::Compacted),
+            6 => Ok(Refusal::Limits),
+            7 => Ok(Refusal::Unsafe),
+            8 => Ok(Refusal::Full),
+            _ => Err(n),
+        }
+    }
 }

@@ -13,3 +13,4 @@ pub mod Load
 pub mod Lookup
 pub mod Row
 pub mod Cursor
+pub mod Stages

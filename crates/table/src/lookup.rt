@@ -1,6 +1,7 @@
 // Looking in a table for what a reading of a key at a moment wants, a page at a time: binary search over the heads of the blocks, and then the one block that decides.
 // A probe reads a block's entry and its head; the entry of the last block found ahead is kept, so that the block that decides is read at once.
 ghost use Rattle.std.specs.Prelude.{◌≡◌};
+ghost use Rattle.table.specs.Stages.{stage_of, stage_number};
 ghost use Rattle.table.specs.Lookup.{entry_in, probed, begun, entered, loaded, narrowed_by, found_by};
 
 use crate::block::{bound, find, head_key};
@@ -25,11 +26,33 @@ pub struct Entry {
 }
 
 // What is being read.
-#[derive(Clone, Copy)]
+#[derive(Clone, Copy, Debug, PartialEq, Eq)]
 pub enum Stage {
     Entry,
     Head,
     Block,
+}
+
+// The stage that a number in memory stands for: any number but 1 and 2 is the first.
+impl From<u64> for Stage {
+    ghost from_gives = { λ n stage. stage ≡ stage_of n };
+
+    fn from(n: u64) -> Stage {
+        match n {
+            1 => Stage::Head,
+            2 => Stage::Block,
+            _ => Stage::Entry,
+        }
+    }
+}
+
+// The number that stands for a stage in memory.
+impl From<Stage> for u64 {
+    ghost from_gives = { λ stage n. n ≡ stage_number stage };
+
+    fn from(stage: Stage) -> u64 {
+        stage as u64
+    }
 }
 
 #[derive(Clone, Copy)]
