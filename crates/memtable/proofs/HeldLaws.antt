@@ -17,7 +17,7 @@ use Rattle.memtable.specs.declared.memtable.Memtable.{Memtable}
 use Rattle.memtable.proofs.LoopLaws.{Parts, bisect_parts}
 use Rattle.memtable.proofs.KeyOrderLaws.{ordered}
 use Rattle.memtable.proofs.ReadLaws.{fits_parts, length_encoded, order_read}
-use Rattle.memtable.proofs.SearchLaws.{stretch, stretch_is, ahead_goes, every_getD, goes_falls}
+use Rattle.memtable.proofs.SearchLaws.{stretch, stretch_is, ahead_goes, every_get_or, goes_falls}
 
 pub length_each : {A B : Type 0} (f : A → B) (xs : List A) → length (each f xs) ≡ length xs
 unfolding each
@@ -88,7 +88,7 @@ there index arena t vs h i l =
       stands = subst (λ q. Stands (take t.used arena) q (version_at arena q)) p
           (All-get_or (λ q. Stands (take t.used arena) q (version_at arena q)) (take t.versions index) i 0 m h.stand);
       fit = ap fits (sym (n (version_at arena 0)))
-          ∙ every_getD fits (sort vs) i (version_at arena 0) (omega (arith, c.sorted)) (sort_every fits vs ∙ h.fit);
+          ∙ every_get_or fits (sort vs) i (version_at arena 0) (omega (arith, c.sorted)) (sort_every fits vs ∙ h.fit);
       nth = n;
     }
 

@@ -61,11 +61,11 @@ comes_goes k s u w c g = go (or_cases (before u.key w.key) _ c) (or_cases (befor
         let e : same u.key k ≡ true = ap (λ x. same x k) a ∙ and_left_of (same w.key k) _ q in
         rw (e, le-leb s u.moment (omega arith)) (or_true_right (before u.key k))
 
-pub every_getD : (f : Version → Bool) (us : List Version) (i : ℕ) (d : Version) → i < length us → every f us ≡ true → f (get_or us i d) ≡ true
+pub every_get_or : (f : Version → Bool) (us : List Version) (i : ℕ) (d : Version) → i < length us → every f us ≡ true → f (get_or us i d) ≡ true
 unfolding every
-every_getD f [] i d h e = absurd (omega arith)
-every_getD f (u ∷ us) zero d h e = and_left_of (f u) (every f us) e
-every_getD f (u ∷ us) (suc i) d h e = every_getD f us i d (omega arith) (and_right_of (f u) (every f us) e)
+every_get_or f [] i d h e = absurd (omega arith)
+every_get_or f (u ∷ us) zero d h e = and_left_of (f u) (every f us) e
+every_get_or f (u ∷ us) (suc i) d h e = every_get_or f us i d (omega arith) (and_right_of (f u) (every f us) e)
 
 pub goes_falls : (k : List ℕ) (s : ℕ) (us : List Version) (d : Version) → in_order us ≡ true → (i j : ℕ) → i ≤ j → j < length us →
     goes_before k s (get_or us j d) ≡ true → goes_before k s (get_or us i d) ≡ true
@@ -73,7 +73,7 @@ unfolding in_order
 goes_falls k s [] d o i j h l g = absurd (omega arith)
 goes_falls k s (u ∷ us) d o zero zero h l g = g
 goes_falls k s (u ∷ us) d o zero (suc j) h l g =
-    comes_goes k s u (get_or us j d) (every_getD (comes_first u) us j d (omega arith) (and_left_of (every (comes_first u) us) (in_order us) o)) g
+    comes_goes k s u (get_or us j d) (every_get_or (comes_first u) us j d (omega arith) (and_left_of (every (comes_first u) us) (in_order us) o)) g
 goes_falls k s (u ∷ us) d o (suc i) zero h l g = absurd (omega arith)
 goes_falls k s (u ∷ us) d o (suc i) (suc j) h l g =
     goes_falls k s us d (and_right_of (every (comes_first u) us) (in_order us) o) i j (omega arith) (omega arith) g

@@ -111,9 +111,8 @@ impl Table {
     ) -> anyhow::Result<()> {
         let bytes = self.front(heap, block, u64::MAX)?;
         let block = bytes.as_slice();
-        for place in iter::successors(first(block), |place| next(block, *place)).take(
-            MOST_IN_BLOCK,
-        ) {
+        let places = iter::successors(first(block), |place| next(block, *place));
+        for place in places.take(MOST_IN_BLOCK) {
             versions.push(Version::at(heap, block, place)?)?;
         }
         Ok(())
