@@ -10,7 +10,7 @@ use crate::stage::stage;
 use crate::words::turn_to;
 use memtable::{is_gone, moment_at};
 use store::{ARENA, ARENA_END, ROW, Told, find, write_row, write_shown};
-use table::{Lookup, begin, read_octets};
+use table::{Lookup, begin, octets};
 use value::{Version, key_of, value_of};
 
 // Memory does not decide: the table is looked through, unless no key there can be this one.
@@ -68,8 +68,7 @@ fn end_get(
 ) -> Told
     ensures { Does (got_by control memory.old lookup) result out.old memory.new out.new }
 {
-    let mut row = [0u8; 2016];
-    read_octets(&memory[RING..LIST], &mut row);
+    let row: [u8; 2016] = octets(&memory[RING..LIST]);
     let moment = moment_at(&memory[STAGE..RING], 0);
     let extent = extent_of(control.manifest);
     match look_staged(memory, lookup, extent, &row, moment) {

@@ -1,19 +1,18 @@
 // Bytes in rows of words, a byte a word.
 ghost use Rattle.std.specs.Prelude.{◌≡◌, min, length, take};
-ghost use Rattle.table.specs.Row.{octets};
+ghost use Rattle.table.specs.Row.{octets as octets_of};
 ghost use Rattle.flushing_store.specs.Octets.{put_octets};
 
 use store::Bytes;
-use table::read_octets;
+use table::octets;
 use value::byte;
 
 // A byte a word, over a whole row; where there are no more bytes, 0.
 pub fn widen_into(bytes: &[u8], row: &mut [u64])
-    ensures { row.new ≡ octets (length row.old) bytes.now }
+    ensures { row.new ≡ octets_of (length row.old) bytes.now }
 {
-    // By index: a loop over a row that is zipped with bytes leaves its proof without the values that were written.
-    for i in 0..row.len() {
-        row[i] = u64::from(byte(bytes, i));
+    for (i, word) in row.iter_mut().enumerate() {
+        *word = u64::from(byte(bytes, i));
     }
 }
 
@@ -33,12 +32,10 @@ pub fn put_octets(row: &mut [u64], at: u64, bytes: &[u8])
 
 // The first n bytes that words hold, at most 504, which is what a page has room for.
 pub fn page_octets(words: &[u64], n: u64) -> Bytes<504>
-    ensures { take result.len result.row ≡ octets (min n 504) words.now }
+    ensures { take result.len result.row ≡ octets_of (min n 504) words.now }
 {
-    let mut row = [0; 504];
-    read_octets(words, &mut row);
     Bytes {
-        row,
+        row: octets(words),
         len: n.min(504) as usize,
     }
 }

@@ -16,7 +16,7 @@ use store::{
     Refusal, Told, key_size, not_earlier, proper_moment, put_in_table, read_key, read_value, roomy,
     unwritten, value_size, within_pages,
 };
-use table::{Lookup, begin, read_octets};
+use table::{Lookup, begin, octets};
 use value::Version;
 
 fn put_version(
@@ -127,8 +127,7 @@ fn finish(memory: &mut [u64; MEMORY], control: Control) -> Told
 fn end_look(memory: &mut [u64; MEMORY], control: Control, lookup: Lookup) -> Told
     ensures { Quiet (wrote_by control memory.old lookup) result memory.new }
 {
-    let mut row = [0u8; 2016];
-    read_octets(&memory[RING..LIST], &mut row);
+    let row: [u8; 2016] = octets(&memory[RING..LIST]);
     let moment = moment_at(&memory[STAGE..RING], 0);
     let extent = extent_of(control.manifest);
     match look_staged(memory, lookup, extent, &row, moment.wrapping_add(1)) {

@@ -30,8 +30,8 @@ pub fn write_shown(key: &[u8], value: &[u8], out: &mut [u64; ROW]) -> u64
         .saturating_add(value.len())
         .saturating_add(1)
         .min(ROW);
-    for i in 0..len {
-        out[i] = shown_byte(key, value, i);
+    for (i, number) in out[..len].iter_mut().enumerate() {
+        *number = shown_byte(key, value, i);
     }
     len as u64
 }

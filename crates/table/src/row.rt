@@ -44,12 +44,3 @@ pub fn octets<const N: usize>(row: &[u64]) -> [u8; N]
 {
     array::from_fn(|i| octet(row, i))
 }
-
-// The bytes of the words, over a whole row; past the end 0.
-pub fn read_octets(row: &[u64], out: &mut [u8])
-    ensures { out.new ≡ octets_of (length out.old) row.now }
-{
-    for i in 0..out.len() {
-        out[i] = octet(row, i);
-    }
-}

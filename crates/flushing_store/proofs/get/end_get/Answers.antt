@@ -15,7 +15,7 @@ returns-in-On c =
     let k = c.args.control in
     let m = c.args.memory.now in
     let l = c.args.lookup in
-    let e : c.look_staged.result ≡ looked_for k m l = c.look_staged.ensures ∙ (λ i. looked l (c.extent_of-extent.ensures i) (c.read_octets.ensures i) (key_in (stage_region m) 0) (c.moment_at-moment.ensures i)) in
+    let e : c.look_staged.result ≡ looked_for k m l = c.look_staged.ensures ∙ (λ i. looked l (c.extent_of-extent.ensures i) (c.octets-row.ensures i) (key_in (stage_region m) 0) (c.moment_at-moment.ensures i)) in
     get_on k m l c.args.out.now _ c.in-On.next _ (sym e ∙ c.in-On.is) c.ask.ensures
 
 pub returns-in-Missing : goal.returns-in-Missing
@@ -24,7 +24,7 @@ returns-in-Missing c =
     let k = c.args.control in
     let m = c.args.memory.now in
     let l = c.args.lookup in
-    let e : c.look_staged.result ≡ looked_for k m l = c.look_staged.ensures ∙ (λ i. looked l (c.extent_of-extent.ensures i) (c.read_octets.ensures i) (key_in (stage_region m) 0) (c.moment_at-moment.ensures i)) in
+    let e : c.look_staged.result ≡ looked_for k m l = c.look_staged.ensures ∙ (λ i. looked l (c.extent_of-extent.ensures i) (c.octets-row.ensures i) (key_in (stage_region m) 0) (c.moment_at-moment.ensures i)) in
     get_missing k m l c.args.out.now _ (sym e ∙ c.in-Missing.is) c.turn_to.ensures
 
 pub returns-then-place : goal.returns-then-place
@@ -33,7 +33,7 @@ returns-then-place c =
     let k = c.args.control in
     let m = c.args.memory.now in
     let l = c.args.lookup in
-    let e : c.look_staged.result ≡ looked_for k m l = c.look_staged.ensures ∙ (λ i. looked l (c.extent_of-extent.ensures i) (c.read_octets.ensures i) (key_in (stage_region m) 0) (c.moment_at-moment.ensures i)) in
+    let e : c.look_staged.result ≡ looked_for k m l = c.look_staged.ensures ∙ (λ i. looked l (c.extent_of-extent.ensures i) (c.octets-row.ensures i) (key_in (stage_region m) 0) (c.moment_at-moment.ensures i)) in
     get_gone k m l c.args.out.now _ c.in-Found.place (sym e ∙ c.in-Found.is) c.if-place.true c.turn_to-then-place.ensures
 
 pub returns-else-place : goal.returns-else-place
@@ -43,8 +43,8 @@ returns-else-place c =
     let m = c.args.memory.now in
     let l = c.args.lookup in
     let p = c.in-Found.place in
-    let e : c.look_staged.result ≡ looked_for k m l = c.look_staged.ensures ∙ (λ i. looked l (c.extent_of-extent.ensures i) (c.read_octets.ensures i) (key_in (stage_region m) 0) (c.moment_at-moment.ensures i)) in
-    let b = c.loaded-block.ensures ∙ ap (loaded l) c.read_octets.ensures in
+    let e : c.look_staged.result ≡ looked_for k m l = c.look_staged.ensures ∙ (λ i. looked l (c.extent_of-extent.ensures i) (c.octets-row.ensures i) (key_in (stage_region m) 0) (c.moment_at-moment.ensures i)) in
+    let b = c.loaded-block.ensures ∙ ap (loaded l) c.octets-row.ensures in
     let q = (λ i. row_of (c.key_of.ensures i) (c.value_of.ensures i)) ∙ ap (λ x. row_of (key_at x p) (value_at x p)) b in
     get_shown k m l c.args.out.now _ p _ _ (sym e ∙ c.in-Found.is) c.if-place.false c.turn_to-in-Found.ensures
     (c.write_shown-len.ensures.len ∙ ap length q) (c.write_shown-len.ensures.row ∙ ap (λ x. x ++ drop (length x) c.args.out.now) q)

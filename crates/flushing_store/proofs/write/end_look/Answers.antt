@@ -13,7 +13,7 @@ returns-in-On c =
     let k = c.args.control in
     let m = c.args.memory.now in
     let l = c.args.lookup in
-    let e : c.look_staged.result ≡ looked_for k m l = c.look_staged.ensures ∙ (λ i. looked l (c.extent_of-extent.ensures i) (c.read_octets.ensures i) (key_in (stage_region m) 0) (wrap (c.moment_at-moment.ensures i + 1))) in
+    let e : c.look_staged.result ≡ looked_for k m l = c.look_staged.ensures ∙ (λ i. looked l (c.extent_of-extent.ensures i) (c.octets-row.ensures i) (key_in (stage_region m) 0) (wrap (c.moment_at-moment.ensures i + 1))) in
     write_on k m l _ _ c.in-On.next (sym e ∙ c.in-On.is) c.ask.ensures
 
 pub returns-in-Missing : goal.returns-in-Missing
@@ -22,7 +22,7 @@ returns-in-Missing c =
     let k = c.args.control in
     let m = c.args.memory.now in
     let l = c.args.lookup in
-    let e : c.look_staged.result ≡ looked_for k m l = c.look_staged.ensures ∙ (λ i. looked l (c.extent_of-extent.ensures i) (c.read_octets.ensures i) (key_in (stage_region m) 0) (wrap (c.moment_at-moment.ensures i + 1))) in
+    let e : c.look_staged.result ≡ looked_for k m l = c.look_staged.ensures ∙ (λ i. looked l (c.extent_of-extent.ensures i) (c.octets-row.ensures i) (key_in (stage_region m) 0) (wrap (c.moment_at-moment.ensures i + 1))) in
     write_missing k m l _ _ (sym e ∙ c.in-Missing.is) c.finish.ensures
 
 pub returns-then-place-moment : goal.returns-then-place-moment
@@ -31,7 +31,7 @@ returns-then-place-moment c =
     let k = c.args.control in
     let m = c.args.memory.now in
     let l = c.args.lookup in
-    let e : c.look_staged.result ≡ looked_for k m l = c.look_staged.ensures ∙ (λ i. looked l (c.extent_of-extent.ensures i) (c.read_octets.ensures i) (key_in (stage_region m) 0) (wrap (c.moment_at-moment.ensures i + 1))) in
+    let e : c.look_staged.result ≡ looked_for k m l = c.look_staged.ensures ∙ (λ i. looked l (c.extent_of-extent.ensures i) (c.octets-row.ensures i) (key_in (stage_region m) 0) (wrap (c.moment_at-moment.ensures i + 1))) in
     write_same k m l (No 3) _ c.in-Found.place (sym e ∙ c.in-Found.is) (eq-eqb c.in-Found.place.moment (moment_at (stage_region m) 0) (c.if-place-moment.true ∙ c.moment_at-moment.ensures)) c.turn_to.ensures
 
 pub returns-else-place-moment : goal.returns-else-place-moment
@@ -40,5 +40,5 @@ returns-else-place-moment c =
     let k = c.args.control in
     let m = c.args.memory.now in
     let l = c.args.lookup in
-    let e : c.look_staged.result ≡ looked_for k m l = c.look_staged.ensures ∙ (λ i. looked l (c.extent_of-extent.ensures i) (c.read_octets.ensures i) (key_in (stage_region m) 0) (wrap (c.moment_at-moment.ensures i + 1))) in
+    let e : c.look_staged.result ≡ looked_for k m l = c.look_staged.ensures ∙ (λ i. looked l (c.extent_of-extent.ensures i) (c.octets-row.ensures i) (key_in (stage_region m) 0) (wrap (c.moment_at-moment.ensures i + 1))) in
     write_other k m l _ _ c.in-Found.place (sym e ∙ c.in-Found.is) (ne_eqb c.in-Found.place.moment (moment_at (stage_region m) 0) (λ q. c.if-place-moment.false (q ∙ sym c.moment_at-moment.ensures))) c.finish-in-Found.ensures
