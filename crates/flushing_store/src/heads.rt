@@ -8,7 +8,7 @@ use crate::turn::Turn;
 use memtable::{is_gone, moment_at, place_at};
 use merge::{Next, choose};
 use store::{ARENA, ARENA_END, INDEX, read_key, read_value};
-use value::{Place, Version, key_of, value_of};
+use value::{Place, Version, key_of, version_of};
 
 // Where the next version in memory stands.
 pub fn memory_head(memory: &[u64; MEMORY], control: Control) -> Option<u64>
@@ -75,16 +75,7 @@ pub fn give_table(memory: &mut [u64; MEMORY], control: Control, block: &[u8], pl
     ensures memory { memory.new ≡ (table_turn control memory.old block.now place).memory }
 {
     let entry = control.merging.cursor.entry(&memory[LIST..HAND]);
-    let Some(writer) = give(
-        memory,
-        control.merging.writer,
-        Version {
-            key: key_of(block, place),
-            moment: place.moment,
-            gone: place.gone,
-            value: value_of(block, place),
-        },
-    ) else {
+    let Some(writer) = give(memory, control.merging.writer, version_of(block, place)) else {
         return Turn {
             control,
             deed: None,

@@ -1,7 +1,7 @@
 -- A page is filled byte by byte, and sealed.
-use Rattle.std.proofs.Common.{◌≡◌, ℕ, zero, suc, ◌+◌, ◌-◌, ◌<◌, ◌≤◌, List, [], ◌∷◌, ◌++◌, length, get_or, take, drop, set, replicate, sym, refl, ap, ◌∙◌, ⊎_elim, append_assoc, append-nil, arith, length-append, eq-eqb, ne_eqb, le-leb}
+use Rattle.std.proofs.Common.{◌≡◌, ℕ, zero, suc, ◌-◌, ◌<◌, ◌≤◌, List, ◌++◌, length, get_or, take, drop, replicate, sym, refl, ap, ◌∙◌, ⊎_elim, append-nil, arith, length-append, eq-eqb, ne_eqb, le-leb}
 use Rattle.std.proofs.lemmas.Bool.{cases_lt}
-use Rattle.std.proofs.lemmas.List.{drop_more, set_at, take_all, take_at, drop_at, drop_all, length-take-le, length-drop, take_more, get_or-take, get_or_past, get_or_append_left, get_or-append_right}
+use Rattle.std.proofs.lemmas.List.{take_at, drop_at, drop_all, length-drop, get_or-take, get_or_past, get_or_append_left, get_or-append_right}
 use Rattle.value.specs.Numbers.{bytes_of}
 use Rattle.value.specs.Padded.{padded}
 use Rattle.value.proofs.NumberLaws.{length_bytes_of}
@@ -10,18 +10,6 @@ use Rattle.table.specs.Sum.{page_sum, sealed_page}
 use Rattle.table.specs.Stream.{payload, sealed, filled}
 use Rattle.table.proofs.SumLaws.{sum_front}
 use Rattle.table.proofs.StreamLaws.{length_payload}
-
--- a row written number by number over the front of another
-pub fill_next : (ms out now : List ℕ) (k x : ℕ) → now ≡ take k ms ++ drop k out → k < length out → k < length ms → x ≡ get_or ms k 0 → set now k x ≡ take (k + 1) ms ++ drop (k + 1) out
-fill_next ms out now k x w h l y =
-    let t = take_more ms k 0 l in
-    let s = set_at (take k ms) (get_or out k 0) (drop (k + 1) out) x k (length-take-le k ms (omega arith)) in
-    let o = drop_more out k 0 h in
-    let a = append_assoc (take k ms) (x ∷ []) (drop (k + 1) out) in
-    cc
-
-pub fill_end : (ms out now : List ℕ) (k n : ℕ) → now ≡ take k ms ++ drop k out → k ≡ n → length ms ≡ n → now ≡ ms ++ drop n out
-fill_end ms out now k n w e l = w ∙ ap (λ k. take k ms ++ drop k out) e ∙ ap (λ z. z ++ drop n out) (take_all n ms (omega arith))
 
 getD_zeros : (n i : ℕ) → ◌≡◌ {A = ℕ} (get_or (replicate n 0) i 0) 0
 getD_zeros zero i = refl

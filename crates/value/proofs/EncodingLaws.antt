@@ -210,20 +210,6 @@ version_there row at =
     let f : drop (at + 15 + k) row ≡ drop (15 + k) (drop at row) = ap (λ t. drop t row) n ∙ sym (drop-drop (15 + k) at row) in
     (λ i. version (take k (e i)) (moment_in (drop at row)) (gone_in (drop at row)) (take (value_length (drop at row)) (f i)))
 
-pub end_there : (row : List ℕ) (at : ℕ) → drop (end_of (place_in (drop at row) at)) row ≡ drop (size_in (drop at row)) (drop at row)
-end_there row at =
-    let n : at + 15 + key_length (drop at row) + value_length (drop at row) ≡ at + size_in (drop at row) = omega arith in
-    ap (λ t. drop t row) n ∙ sym (drop-drop (size_in (drop at row)) at row)
-
--- what stands is in limits
-pub version_in_limits : (bs : List ℕ) → Stands bs → in_limits (version_in bs) ≡ true
-version_in_limits bs s =
-    let d = length-drop 15 bs in
-    let e = length-drop (15 + key_length bs) bs in
-    let k : length (part 15 (key_length bs) bs) ≡ key_length bs = length-take-le _ _ (omega (arith, s.room)) in
-    let n : length (part (15 + key_length bs) (value_length bs) bs) ≡ value_length bs = length-take-le _ _ (omega (arith, s.room)) in
-    (λ i. limits (k i) (moment_in bs) (gone_in bs) (n i)) ∙ s.limited
-
 pub parse_reads_encode : ParseReadsEncode
 unfolding parsed
 parse_reads_encode xs v ys e =
