@@ -9,6 +9,7 @@ use Rattle.value.specs.Encoding.{encoding, encoded_length, in_limits}
 use Rattle.table.specs.Blocks.{bound_of}
 use Rattle.table.specs.Layout.{block_limit, stream_from, entry, entries_from, table_stream, table_entries}
 use Rattle.table.specs.Stream.{sealed, page_of}
+use Rattle.table.specs.declared.writer.Filling.{Filling}
 use Rattle.table.specs.declared.writer.Writer.{Writer}
 use Rattle.table.specs.declared.writer.Due.{Due}
 use Rattle.table.specs.declared.writer.Due.TheVariants.{Data, Positions, Take, Next}
@@ -24,6 +25,13 @@ writer begin used count len taken fill put listed lists = record {
   stream = record { fill = fill; put = put };
   positions = record { fill = listed; put = lists };
 }
+
+-- a page being filled with so many bytes more, and the one behind it
+abbrev pub filled_by : Filling → ℕ → Filling
+filled_by f n = record { fill = wrap (f.fill + n); put = f.put }
+
+abbrev pub after_put : Filling → Filling
+after_put f = record { fill = 0; put = wrap (f.put + 1) }
 
 abbrev pub new_writer : Writer
 new_writer = writer 0 0 0 0 0 0 0 0 0

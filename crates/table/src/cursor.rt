@@ -36,8 +36,8 @@ pub fn block_into(entry: Entry, ring: &[u64], block: &mut [u8]) -> usize
 {
     let begin = (entry.begin % 2016) as usize;
     let len = (entry.len as usize).min(block.len());
-    for i in 0..len {
-        block[i] = octet(ring, (begin + i % 2016) % 2016);
+    for (i, b) in block[..len].iter_mut().enumerate() {
+        *b = octet(ring, (begin + i % 2016) % 2016);
     }
     len
 }

@@ -1,6 +1,6 @@
 // Writing a table a page at a time: versions are handed over one by one, in order, and the writer says when a page of data or of positions is full and has to be put.
 ghost use Rattle.std.specs.Prelude.{◌≡◌};
-ghost use Rattle.table.specs.Writing.{begins, new_writer, due_of, took, put_data, put_positions, gave, closed};
+ghost use Rattle.table.specs.Writing.{filled_by, after_put, begins, new_writer, due_of, took, put_data, put_positions, gave, closed};
 
 // The block being written: where it begins in the stream, how many bytes it has, and how many blocks were begun.
 #[derive(Clone, Copy)]
@@ -45,6 +45,28 @@ pub enum Due {
     Next,
 }
 
+impl Filling {
+    // So many bytes more are on the page.
+    fn with(self, n: u64) -> Filling
+        ensures { result ≡ filled_by self n }
+    {
+        Filling {
+            fill: self.fill.wrapping_add(n),
+            ..self
+        }
+    }
+
+    // The page was put: the next one is empty.
+    fn next(self) -> Filling
+        ensures { result ≡ after_put self }
+    {
+        Filling {
+            fill: 0,
+            put: self.put.wrapping_add(1),
+        }
+    }
+}
+
 impl Writer {
     pub fn new() -> Writer
         ensures { result ≡ new_writer }
@@ -85,13 +107,9 @@ impl Writer {
             taken: self.hand.taken.wrapping_add(n),
             ..self.hand
         };
-        let stream = Filling {
-            fill: self.stream.fill.wrapping_add(n),
-            ..self.stream
-        };
         Writer {
             hand,
-            stream,
+            stream: self.stream.with(n),
             ..self
         }
     }
@@ -100,22 +118,20 @@ impl Writer {
     pub fn put_data(self) -> Writer
         ensures { result ≡ put_data self }
     {
-        let stream = Filling {
-            fill: 0,
-            put: self.stream.put.wrapping_add(1),
-        };
-        Writer { stream, ..self }
+        Writer {
+            stream: self.stream.next(),
+            ..self
+        }
     }
 
     // The page of positions was put.
     pub fn put_positions(self) -> Writer
         ensures { result ≡ put_positions self }
     {
-        let positions = Filling {
-            fill: 0,
-            put: self.positions.put.wrapping_add(1),
-        };
-        Writer { positions, ..self }
+        Writer {
+            positions: self.positions.next(),
+            ..self
+        }
     }
 
     // Whether a version of so many bytes begins a new block.
@@ -129,57 +145,47 @@ impl Writer {
     pub fn give(self, size: u64) -> Writer
         ensures { result ≡ gave self size }
     {
-        if self.begins(size) {
-            let begin = if self.block.count == 0 {
-                0
-            } else {
-                self.block.begin.wrapping_add(self.block.used)
+        if !self.begins(size) {
+            let block = Open {
+                used: self.block.used.wrapping_add(size),
+                ..self.block
             };
-            let fill = if self.block.count == 0 {
-                self.positions.fill
-            } else {
-                self.positions.fill.wrapping_add(8)
-            };
-            let len = size.wrapping_add(8);
             return Writer {
-                block: Open {
-                    begin,
-                    used: len,
-                    count: self.block.count.wrapping_add(1),
-                },
-                hand: Hand { len, taken: 0 },
-                positions: Filling {
-                    fill,
-                    ..self.positions
+                block,
+                hand: Hand {
+                    len: size,
+                    taken: 0,
                 },
                 ..self
             };
         }
-        let block = Open {
-            used: self.block.used.wrapping_add(size),
-            ..self.block
+        let begin = if self.block.count == 0 {
+            0
+        } else {
+            self.block.begin.wrapping_add(self.block.used)
         };
+        let len = size.wrapping_add(8);
         Writer {
-            block,
-            hand: Hand {
-                len: size,
-                taken: 0,
+            block: Open {
+                begin,
+                used: len,
+                count: self.block.count.wrapping_add(1),
             },
-            ..self
+            hand: Hand { len, taken: 0 },
+            ..self.close()
         }
     }
 
-    // The last block is closed: its entry goes to the page of positions.
+    // The block that was begun last is closed: its entry goes to the page of positions.
     pub fn close(self) -> Writer
         ensures { result ≡ closed self }
     {
         if self.block.count == 0 {
             return self;
         }
-        let positions = Filling {
-            fill: self.positions.fill.wrapping_add(8),
-            ..self.positions
-        };
-        Writer { positions, ..self }
+        Writer {
+            positions: self.positions.with(8),
+            ..self
+        }
     }
 }

@@ -15,4 +15,4 @@ pub use laws::{
     stream_forgets, stream_shows, streams_agree, streams_differ, twice_once, write_seen,
 };
 pub use number::{byte, padded, part_of, read_u16, read_u32, read_u64, rest};
-pub use version::{Place, Version, encode, key_of, order_versions, parse, value_of};
+pub use version::{Place, Version, encode, key_of, order_versions, parse, value_of, version_of};

@@ -97,6 +97,18 @@ pub fn value_of(row: &[u8], place: Place) -> &[u8]
     part_of(row, place.value_at, place.value_len)
 }
 
+// The version at a place.
+pub fn version_of(row: &[u8], place: Place) -> Version<'_>
+    ensures { said result ≡ version_at row.now place }
+{
+    Version {
+        key: key_of(row, place),
+        moment: place.moment,
+        gone: place.gone,
+        value: value_of(row, place),
+    }
+}
+
 // The fifteen bytes before a version's key.
 fn head_of(key_len: usize, moment: u64, gone: bool, value_len: usize) -> [u8; HEAD]
     requires { (key_len < 256) × (value_len ≤ 1024) }
