@@ -53,13 +53,7 @@ impl<'a> Builder<'a> {
     // Hands over the next version, in the order of a table.
     pub fn give(&mut self, version: &'a Version) -> anyhow::Result<()> {
         let mut out = [0u8; LONGEST];
-        let said = value::Version {
-            key: &version.key,
-            moment: version.moment,
-            gone: version.gone,
-            value: &version.value,
-        };
-        let Some(size) = encode(said, &mut out) else {
+        let Some(size) = encode(version.said(), &mut out) else {
             return Err(anyhow!("a version is outside the limits"));
         };
         self.hand.clear();

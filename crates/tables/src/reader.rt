@@ -4,7 +4,7 @@ use anyhow::anyhow;
 use std::alloc::Global;
 use std::iter;
 use table::{Search, bound, find, first, head_key, is_ahead, next, payload, sound, span_at};
-use value::{part_of, read_u32};
+use value::{part_of, read_u32, version_of};
 
 // As many bytes of a block tell its bound and the key of its first version: 8 + 15 + 255.
 const HEAD: u64 = 278;
@@ -99,7 +99,7 @@ impl Table {
         let Some(place) = find(block.as_slice(), key, moment) else {
             return Ok(None);
         };
-        Ok(Some(Version::at(heap, block.as_slice(), place)?))
+        Ok(Some(Version::owned(heap, version_of(block.as_slice(), place))?))
     }
 
     // Puts the versions of a block behind others.
@@ -113,7 +113,7 @@ impl Table {
         let block = bytes.as_slice();
         let places = iter::successors(first(block), |place| next(block, *place));
         for place in places.take(MOST_IN_BLOCK) {
-            versions.push(Version::at(heap, block, place)?)?;
+            versions.push(Version::owned(heap, version_of(block, place))?)?;
         }
         Ok(())
     }

@@ -1,6 +1,6 @@
 // A version as the program has it.
 use std::alloc::{AllocError, Global};
-use value::{Place, key_of, value_of};
+use value::Version as Said;
 
 #[derive(PartialEq, Eq, Drop)]
 pub struct Version {
@@ -11,32 +11,47 @@ pub struct Version {
 }
 
 impl Version {
-    pub fn new(heap: Global, key: &[u8], moment: u64, value: &[u8]) -> Result<Version, AllocError> {
+    // The version that is said, in memory of its own.
+    pub fn owned(heap: Global, said: Said<'_>) -> Result<Version, AllocError> {
         Ok(Version {
-            key: Vec::from_slice(heap, key)?,
-            moment,
-            gone: false,
-            value: Vec::from_slice(heap, value)?,
+            key: Vec::from_slice(heap, said.key)?,
+            moment: said.moment,
+            gone: said.gone,
+            value: Vec::from_slice(heap, said.value)?,
         })
+    }
+
+    pub fn new(heap: Global, key: &[u8], moment: u64, value: &[u8]) -> Result<Version, AllocError> {
+        Version::owned(
+            heap,
+            Said {
+                key,
+                moment,
+                gone: false,
+                value,
+            },
+        )
     }
 
     pub fn erasure(heap: Global, key: &[u8], moment: u64) -> Result<Version, AllocError> {
-        Ok(Version {
-            key: Vec::from_slice(heap, key)?,
-            moment,
-            gone: true,
-            value: Vec::new(heap),
-        })
+        Version::owned(
+            heap,
+            Said {
+                key,
+                moment,
+                gone: true,
+                value: b"",
+            },
+        )
     }
 
-    // The version that lies at a place of a row.
-    pub fn at(heap: Global, row: &[u8], place: Place) -> Result<Version, AllocError> {
-        Ok(Version {
-            key: Vec::from_slice(heap, key_of(row, place))?,
-            moment: place.moment,
-            gone: place.gone,
-            value: Vec::from_slice(heap, value_of(row, place))?,
-        })
+    pub fn said(&self) -> Said<'_> {
+        Said {
+            key: &self.key,
+            moment: self.moment,
+            gone: self.gone,
+            value: &self.value,
+        }
     }
 
     pub fn weight(&self) -> u64 {
