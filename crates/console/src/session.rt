@@ -23,6 +23,7 @@ const ROW: usize = 1280;
 #[derive(Clone, Copy)]
 enum End {
     Done,
+    // By the number that the machine tells.
     Refused(u64),
     // Power went first.
     Cut,

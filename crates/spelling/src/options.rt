@@ -12,7 +12,7 @@ pub struct Options {
     pub with_acts: bool,
 }
 
-// Where nothing is said.
+// Where nothing is said. By hand: a derive would give no pages.
 impl Default for Options {
     ghost is_default = { λ o. o ≡ usual };
 
