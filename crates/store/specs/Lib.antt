@@ -12,3 +12,4 @@ pub mod Get
 pub mod Own
 pub mod Event
 pub mod Entry
+pub mod Refusals

@@ -1,4 +1,6 @@
 // What the machine asks of the world, or how a command ended.
+ghost use Rattle.store.specs.Refusals.{ByNumber};
+
 #[derive(Clone, Copy)]
 pub enum Told {
     Read(u64),
@@ -11,8 +13,8 @@ pub enum Told {
     No(u64),
 }
 
-// Why the machine refuses.
-#[derive(Clone, Copy)]
+// Why the machine refuses, by the number that it tells.
+#[derive(Clone, Copy, Debug, PartialEq, Eq)]
 pub enum Refusal {
     // Memory or a row is not of the length that a step takes.
     Misfit = 0,
@@ -28,4 +30,27 @@ pub enum Refusal {
     Unsafe = 7,
     // What has to be kept would weigh too much for the pages.
     Full = 8,
+}
+
+// A number that no refusal has.
+#[derive(Clone, Copy, Debug, PartialEq, Eq)]
+pub struct NoRefusal(pub u64);
+
+impl TryFrom<u64> for Refusal {
+    type Error = NoRefusal;
+
+    ghost try_from_gives = { ByNumber };
+
+    fn try_from(n: u64) -> Result<Refusal, NoRefusal> {
+        match n {
+            0 => Ok(Refusal::Misfit),
+            2 => Ok(Refusal::Unknown),
+            3 => Ok(Refusal::Moment),
+            4 => Ok(Refusal::Compacted),
+            6 => Ok(Refusal::Limits),
+            7 => Ok(Refusal::Unsafe),
+            8 => Ok(Refusal::Full),
+            _ => Err(NoRefusal(n)),
+        }
+    }
 }
