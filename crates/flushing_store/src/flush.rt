@@ -122,6 +122,7 @@ pub fn merge_page(
 }
 
 // The last page of data was put: the last page of positions is.
+#[tactic(auto, unfolding(crate::specs::Flush::last_step))]
 pub fn put_last(memory: &mut [u64; MEMORY], control: Control, out: &mut [u64; ROW]) -> Told
     ensures { Does (last_step control memory.old) result out.old memory.new out.new }
 {
@@ -147,6 +148,7 @@ pub fn put_new_list(memory: &mut [u64; MEMORY], control: Control, out: &mut [u64
 }
 
 // The new list is settled: it holds from now on, and nothing is in memory that is not safe.
+#[tactic(auto, unfolding(store::specs::Acts::ActTold, crate::specs::Flush::committed_step))]
 pub fn commit(memory: &mut [u64; MEMORY], control: Control) -> Told
     ensures { Quiet (committed_step control memory.old) result memory.new }
 {

@@ -11,6 +11,7 @@ use store::{ARENA, ARENA_END, INDEX, read_key, read_value};
 use value::{Place, Version, key_of, version_of};
 
 // Where the next version in memory stands.
+#[tactic(auto, unfolding(store::specs::Regions::region))]
 pub fn memory_head(memory: &[u64; MEMORY], control: Control) -> Option<u64>
     ensures { result ≡ memory_head control memory.now }
 {

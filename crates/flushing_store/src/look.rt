@@ -34,6 +34,7 @@ pub fn extent_of(manifest: Manifest) -> Extent
     }
 }
 
+#[tactic(auto, unfolding(crate::specs::Look::looked))]
 fn look(lookup: Lookup, extent: Extent, row: &[u8], key: &[u8], moment: u64) -> Looked
     ensures { result ≡ looked lookup extent row.now key.now moment }
 {
@@ -80,6 +81,7 @@ pub fn take_page(memory: &mut [u64; MEMORY], lookup: Lookup, page: &[u8]) -> Loo
 }
 
 // Asks for the page that a lookup wants next.
+#[tactic(auto, unfolding(store::specs::Acts::ActTold, crate::specs::Look::asked))]
 pub fn ask(memory: &mut [u64; MEMORY], control: Control, lookup: Lookup) -> Told
     ensures { Quiet (asked control memory.old lookup) result memory.new }
 {

@@ -9,6 +9,7 @@ use manifest::{Found, later, read_list};
 use memtable::empty;
 use store::Told;
 
+#[tactic(auto, unfolding(store::specs::Acts::ActTold, crate::specs::Power::powered))]
 pub fn power(memory: &mut [u64; MEMORY], control: Control, pages: u64) -> Told
     ensures { Quiet (powered control memory.old pages) result memory.new }
 {
@@ -33,6 +34,7 @@ fn first_phase(whole: bool) -> Phase
 }
 
 // Page 0 has come.
+#[tactic(auto, unfolding(store::specs::Acts::ActTold, crate::specs::Power::first_listed))]
 pub fn first_list(memory: &mut [u64; MEMORY], control: Control, page: &[u8]) -> Told
     ensures { Quiet (first_listed control memory.old page.now) result memory.new }
 {
@@ -53,6 +55,7 @@ pub fn first_list(memory: &mut [u64; MEMORY], control: Control, page: &[u8]) -> 
 }
 
 // Page 1 has come; whether page 0 was whole is known.
+#[tactic(auto, unfolding(store::specs::Acts::ActTold, crate::specs::Power::second_listed))]
 pub fn second_list(memory: &mut [u64; MEMORY], control: Control, whole: bool, page: &[u8]) -> Told
     ensures { Quiet (second_listed control memory.old whole page.now) result memory.new }
 {

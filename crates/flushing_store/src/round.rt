@@ -96,6 +96,7 @@ fn take_bytes(memory: &mut [u64; MEMORY], control: Control, n: u64) -> Turn
 }
 
 // All was handed over: the last block is closed, and the last page of data is put, or where that is empty the last page of positions.
+#[tactic(auto, unfolding(crate::specs::Round::closed_turn))]
 fn close(memory: &mut [u64; MEMORY], control: Control) -> Turn
     ensures turn { result ≡ (closed_turn control memory.old).turn }
     ensures memory { memory.new ≡ (closed_turn control memory.old).memory }

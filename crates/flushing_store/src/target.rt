@@ -45,6 +45,7 @@ fn size_of(control: Control) -> u64
     pages_for(weight_of(control)).wrapping_add(control.merging.writer.stream.put)
 }
 
+#[tactic(auto, unfolding(crate::specs::Target::next_manifest))]
 fn table_of(control: Control) -> Table
     ensures { result ≡ (next_manifest control).table }
 {
@@ -59,6 +60,7 @@ fn table_of(control: Control) -> Table
 }
 
 // The list that names the new table.
+#[tactic(auto, unfolding(crate::specs::Target::next_manifest))]
 pub fn next_list(control: Control) -> Manifest
     ensures { result ≡ next_manifest control }
 {

@@ -19,6 +19,7 @@ use store::{
 use table::{Lookup, begin, octets};
 use value::Version;
 
+#[tactic(auto, unfolding(crate::specs::Write::put_in))]
 fn put_version(
     memory: &mut [u64; MEMORY],
     control: Control,

@@ -26,6 +26,7 @@ pub enum Event<'a> {
 
 impl<'a> Event<'a> {
     // The event with a number, if its number is known and its rows are not too long.
+    #[tactic(auto, using(crate::proofs::EventLaws::fits), unfolding(crate::specs::Event::event_of))]
     pub fn numbered(kind: u64, n: u64, one: &'a [u8], two: &'a [u8]) -> Option<Event<'a>>
         ensures { MatchOption result (false ≡ event_fits kind one.now two.now) (λ e. (true ≡ event_fits kind one.now two.now) × Meant e (event_of kind n one.now two.now)) }
     {

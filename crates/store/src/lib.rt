@@ -23,4 +23,4 @@ pub use event::Event;
 pub use laws::{nothing_new, own_is_whole, settled_stays, steps_suffice, stop_twice, worked_out};
 pub use regions::{ARENA, ARENA_END, INDEX, find, put_in_table};
 pub use shown::{write_row, write_shown};
-pub use told::{Refusal, Told};
+pub use told::{NoRefusal, Refusal, Told};

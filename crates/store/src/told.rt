@@ -1,4 +1,4 @@
-// What the machine asks of the world, or how a command ended; and why it refuses.
+// What the machine asks of the world, or how a command ended.
 ghost use Rattle.std.specs.Prelude.{◌≡◌};
 ghost use Rattle.store.specs.Refusals.{refusal_of};
 
@@ -14,7 +14,7 @@ pub enum Told {
     No(u64),
 }
 
-// Why the machine refuses.
+// Why the machine refuses, by the number that it tells.
 #[derive(Clone, Copy, Debug, PartialEq, Eq)]
 pub enum Refusal {
     // Memory or a row is not of the length that a step takes.
@@ -33,13 +33,16 @@ pub enum Refusal {
     Full = 8,
 }
 
-// The refusal with a number; an error is the number that none has.
+// A number that no refusal has.
+#[derive(Clone, Copy, Debug, PartialEq, Eq)]
+pub struct NoRefusal(pub u64);
+
 impl TryFrom<u64> for Refusal {
-    type Error = u64;
+    type Error = NoRefusal;
 
     ghost try_from_gives = { λ n r. r ≡ refusal_of n };
 
-    fn try_from(n: u64) -> Result<Refusal, u64> {
+    fn try_from(n: u64) -> Result<Refusal, NoRefusal> {
         match n {
             0 => Ok(Refusal::Misfit),
             2 => Ok(Refusal::Unknown),
@@ -48,7 +51,7 @@ impl TryFrom<u64> for Refusal {
             6 => Ok(Refusal::Limits),
             7 => Ok(Refusal::Unsafe),
             8 => Ok(Refusal::Full),
-            _ => Err(n),
+            _ => Err(NoRefusal(n)),
         }
     }
 }

@@ -1,7 +1,0 @@
-use Rattle.std.proofs.Common.{rules}
-use Rattle.flushing_store.specs.Target.{next_manifest}
-use Rattle.flushing_store.proofs.target.table_of.Goals as goal
-
-pub returns : goal.returns
-unfolding next_manifest
-returns c = search rules
