@@ -44,6 +44,7 @@ pub fn find(block: &[u8], key: &[u8], moment: u64) -> Option<Place>
     ensures { result ≡ found_in block.now key.now moment }
 {
     let mut at = first(block);
+    // Left from inside by a label, as loops over what is in a block are by a rule of the project; a block has at most 94 versions.
     'versions: for i in 0..94usize {
         let Some(place) = at else {
             break 'versions;

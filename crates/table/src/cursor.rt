@@ -20,6 +20,7 @@ pub struct Cursor {
     pub read: u64,
 }
 
+// Four cases, of which two have a page: an option of a two-way enum would say less.
 // What a cursor waits for: a page of positions, a page of data, nothing since the head is there, or nothing since no version is left.
 #[derive(Clone, Copy)]
 pub enum Want {

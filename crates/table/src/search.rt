@@ -13,6 +13,7 @@ pub struct Search {
     pub high: u64,
 }
 
+// A key and a moment are two parameters here and below: each is used by itself at once, and a struct would be made at each call only to be taken apart.
 // Whether what a reading of `key` at `moment` wants stands in the block with this bound and head, or behind it, if it is there.
 pub fn is_ahead(bound: u64, head: &[u8], key: &[u8], moment: u64) -> bool
     ensures { result ≡ ahead key.now moment bound head.now }

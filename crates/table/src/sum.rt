@@ -11,6 +11,7 @@ pub fn page_sum(page: &[u8]) -> u64
     ensures { result ≡ page_sum page.now }
 {
     let mut h: u64 = 1;
+    // A fold over the range would leave its answer to name the run of the iterator; the loop has a line of invariant.
     for i in 0..63usize {
         h = h.wrapping_mul(FACTOR).wrapping_add(read_u64(page, i * 8));
     }

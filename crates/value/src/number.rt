@@ -28,6 +28,7 @@ pub fn padded<const N: usize>(row: &[u8]) -> [u8; N]
     bytes
 }
 
+// Three of a line each, since `from_le_bytes` is a function of each type: a trait over them is no plainer.
 // The number in the two bytes at a place; past the end bytes count as 0.
 pub fn read_u16(row: &[u8], at: usize) -> u16
     ensures { result ≡ number_at 2 at row.now }

@@ -14,7 +14,8 @@ const UNKNOWN_KIND: u16 = 4096;
 
 const TOO_LATE: u64 = 0x8000_0000_0000_0000;
 
-// A version as it is said: a key, the moment of its writing, and a value, or that the key is gone.
+// A version as it is said: a key, the moment of its writing, and a value, or that the key is gone. It has a flag beside the value and not an option of one, since a caller may
+// hand over what is refused: gone, with a value.
 #[derive(Clone, Copy)]
 pub struct Version<'a> {
     pub key: &'a [u8],
@@ -83,6 +84,7 @@ pub fn parse(row: &[u8], at: usize) -> Option<Place>
     })
 }
 
+// Two names for two parts of a place, a line each.
 // The key of the version at a place.
 pub fn key_of(row: &[u8], place: Place) -> &[u8]
     ensures { result.now ≡ key_at row.now place }
