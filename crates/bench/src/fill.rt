@@ -37,9 +37,7 @@ impl Filled {
                 gone: false,
                 value: &key,
             };
-            self.table = self
-                .table
-                .insert(&mut self.index, &mut self.arena, version);
+            self.table = self.table.insert(&mut self.index, &mut self.arena, version);
         }
     }
 

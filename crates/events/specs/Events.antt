@@ -2,6 +2,7 @@
 --   said_by      what a command is told by
 --   told_by      what an event is told by: power, with the number of pages; a command; the page that was read, or no bytes where there is none; go on
 --   Stepping     what a machine's steps may do: memory, what is taken, the row, what is told, and both afterwards
+--   steps_of     those of the machine that a definition gives
 --   Tells        the step of an event
 use Rattle.std.specs.Prelude.{ℕ, List, [], Some, None}
 use Rattle.store.specs.declared.told.Told.{Told}
@@ -11,6 +12,8 @@ use Rattle.events.specs.declared.event.Taken.{Taken}
 use Rattle.events.specs.declared.event.Event.{Event}
 use Rattle.events.specs.declared.event.Event.TheVariants.{On, Say, Back}
 use Rattle.events.specs.declared.event.Reply.TheVariants.{Page, NoPage, Next}
+use Rattle.store.specs.Promise.{Engine}
+use Rattle.store.specs.Entry.{StepSays, step_fits}
 
 -- an event's number, a number, and two rows of bytes
 abbrev pub Takes : Type 0
@@ -40,6 +43,10 @@ told_by (Back Next) p = (12, 0, [], [])
 
 abbrev pub Stepping : Type 1
 Stepping = List ℕ → Takes → List ℕ → Told → List ℕ → List ℕ → Type 0
+
+-- a step of the machine that a definition gives
+abbrev pub steps_of : Engine → Stepping
+steps_of own memory t out r memory₁ out₁ = StepSays own memory t.0 t.1 t.2 t.3 out (step_fits own memory t.0 t.2 t.3 out) r memory₁ out₁
 
 abbrev pub Tells : Stepping → List ℕ → Event → List ℕ → List ℕ → Told → List ℕ → List ℕ → Type 0
 Tells Steps memory e p out r memory₁ out₁ = Steps memory (told_by e p) out r memory₁ out₁

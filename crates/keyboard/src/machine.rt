@@ -1,5 +1,6 @@
 // The machine that keeps on pages what was flushed.
-ghost use Rattle.keyboard.specs.Machine.{Steps};
+ghost use Rattle.flushing_store.specs.Own.{own};
+ghost use Rattle.events.specs.Events.{steps_of};
 
 use events::Machine;
 use store::Told;
@@ -8,7 +9,7 @@ use store::Told;
 pub struct OnPages;
 
 impl Machine for OnPages {
-    ghost Steps = { Steps };
+    ghost Steps = { steps_of own };
 
     const MEMORY: usize = flushing_store::MEMORY;
 

@@ -1,5 +1,6 @@
 // The machine that keeps in memory alone what is written.
-ghost use Rattle.shell.specs.Machine.{Steps};
+ghost use Rattle.store.specs.Own.{own};
+ghost use Rattle.events.specs.Events.{steps_of};
 
 use events::Machine;
 use store::Told;
@@ -8,7 +9,7 @@ use store::Told;
 pub struct InMemory;
 
 impl Machine for InMemory {
-    ghost Steps = { Steps };
+    ghost Steps = { steps_of own };
 
     const MEMORY: usize = store::MEMORY;
 
