@@ -47,6 +47,7 @@ pub fn not_earlier(last: u64, moment: u64) -> Option<u64>
 }
 
 // Where a version goes in the index, if its key was not written at this moment, as far as memory knows.
+#[tactic(auto, unfolding(crate::specs::Checks::unwritten, crate::specs::Regions::region))]
 pub fn unwritten(table: Memtable, memory: &[u64], key: &[u8], moment: u64) -> Option<u64>
     requires { 147520 ≤ length memory.now }
     ensures { result ≡ unwritten_in table memory.now key.now moment }
@@ -60,6 +61,7 @@ pub fn unwritten(table: Memtable, memory: &[u64], key: &[u8], moment: u64) -> Op
 }
 
 // The memtable with a version more, if what is not safe does not weigh too much then.
+#[tactic(auto, unfolding(memtable::specs::Memtable::after_one))]
 pub fn roomy(table: Memtable, key: u64, value: u64) -> Option<Memtable>
     ensures { result ≡ roomy_for table key value }
 {

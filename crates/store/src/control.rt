@@ -53,6 +53,7 @@ impl From<Phase> for u64 {
     }
 }
 
+#[tactic(auto, unfolding(crate::specs::Control::control_of))]
 pub fn load(memory: &[u64; MEMORY]) -> Control
     ensures { result ≡ control_of memory.now }
 {

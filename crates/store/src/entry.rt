@@ -14,6 +14,7 @@ use memtable::empty;
 use value::Version;
 
 // Power is there: nothing is kept yet.
+#[tactic(auto, unfolding(crate::specs::Own::powered, crate::specs::Acts::ActTold))]
 fn power(memory: &mut [u64; MEMORY], pages: u64) -> Told
     ensures { Quiet (powered memory.old pages) result memory.new }
 {
@@ -30,6 +31,7 @@ fn power(memory: &mut [u64; MEMORY], pages: u64) -> Told
 }
 
 // Goes on with what is under way.
+#[tactic(auto, unfolding(crate::specs::Own::went_on, crate::specs::Acts::ActTold))]
 fn go_on(memory: &mut [u64; MEMORY], control: Control) -> Told
     ensures { Quiet (went_on control memory.old control.phase) result memory.new }
 {
@@ -48,6 +50,7 @@ fn go_on(memory: &mut [u64; MEMORY], control: Control) -> Told
     }
 }
 
+#[tactic(auto, using(crate::proofs::EntryLaws::other_turn), unfolding(crate::specs::Own::turned, crate::specs::Own::heard))]
 fn take_turn(
     memory: &mut [u64; MEMORY],
     control: Control,

@@ -13,6 +13,7 @@ pub const ARENA: usize = 16448;
 pub const ARENA_END: usize = 147520;
 
 // The place in the arena of the version that a reading wants.
+#[tactic(auto, unfolding(crate::specs::Regions::sought, crate::specs::Regions::region))]
 pub fn find(table: Memtable, memory: &[u64], key: &[u8], moment: u64) -> Option<u64>
     requires { 147520 ≤ length memory.now }
     ensures { result ≡ sought table memory.now key.now moment }

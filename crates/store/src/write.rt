@@ -13,6 +13,7 @@ use crate::told::{Refusal, Told};
 use memtable::Memtable;
 use value::Version;
 
+#[tactic(auto, unfolding(crate::specs::Write::put_in))]
 fn put_version(
     memory: &mut [u64; MEMORY],
     control: Control,
