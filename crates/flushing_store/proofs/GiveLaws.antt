@@ -1,14 +1,11 @@
 -- A version is handed over: its bound, and the bytes that it brings.
-use Rattle.std.proofs.Common.{◌≡◌, ℕ, ◌+◌, ◌<◌, ◌≤◌, Bool, true, false, List, [], ◌++◌, length, take, drop, Some, None, sym, refl, ap, ◌∙◌, append_assoc, arith, length-append, length-drop, length-take, ne_eqb}
+use Rattle.std.proofs.Common.{◌≡◌, ℕ, ◌+◌, ◌<◌, ◌≤◌, Bool, true, false, List, [], ◌++◌, length, take, drop, Some, None, refl, ap, ◌∙◌, append_assoc, arith, length-append, length-drop, length-take, ne_eqb, bytes_eq}
 use Rattle.std.proofs.lemmas.List.{take_at}
-use Rattle.value.specs.Versions.{pick, same, Version, version}
+use Rattle.value.specs.Versions.{pick, Version, version}
 use Rattle.value.specs.Numbers.{bytes_of}
-use Rattle.value.specs.Order.{OrderSays}
 use Rattle.value.specs.Encoding.{in_limits, encoding, encoded_length, has_room, written_length, written}
-use Rattle.std.specs.declared.cmp.Ordering.TheVariants.{Less, Equal, Greater}
-use Rattle.value.proofs.KeyLaws.{same_from, before_apart, before_apart'}
+use Rattle.value.proofs.KeyLaws.{same_told}
 use Rattle.value.proofs.NumberLaws.{length_bytes_of}
-use Rattle.value.proofs.OrderLaws.{before_said, same_said, behind_said}
 use Rattle.value.proofs.EncodingLaws.{limits_parts, room_true, room_limits, length_encoding}
 use Rattle.memtable.specs.Arena.{key_at, moment_at}
 use Rattle.table.specs.Blocks.{no_bound}
@@ -19,14 +16,11 @@ use Rattle.flushing_store.specs.Stage.{staged}
 use Rattle.flushing_store.specs.Give.{bound_after, brought, in_hand, given_writer, with_entry, given_memory}
 
 module _ (n : ℕ) (m key last : List ℕ) (h : n ≡ 0 → ⊥) (e : last ≡ key_at (stage_region m) 0) where
-  pub bound_same : (s : ℕ) → OrderSays last key Equal → s ≡ moment_at (stage_region m) 0 → s ≡ bound_after n m key
-  bound_same s o f = rw (ne_eqb n 0 h, same_from (key_at (stage_region m) 0) key (sym e ∙ same_said last key o)) f
+  pub bound_same : (s : ℕ) → true ≡ bytes_eq last key → s ≡ moment_at (stage_region m) 0 → s ≡ bound_after n m key
+  bound_same s o f = rw (ne_eqb n 0 h, same_told last (key_at (stage_region m) 0) key true e o) f
 
-  pub bound_before : OrderSays last key Less → no_bound ≡ bound_after n m key
-  bound_before o = rw (ne_eqb n 0 h, sym (ap (λ x. same x key) e) ∙ before_apart last key (before_said last key o)) refl
-
-  pub bound_behind : OrderSays last key Greater → no_bound ≡ bound_after n m key
-  bound_behind o = rw (ne_eqb n 0 h, sym (ap (λ x. same x key) e) ∙ before_apart' key last (behind_said last key o)) refl
+  pub bound_other : false ≡ bytes_eq last key → no_bound ≡ bound_after n m key
+  bound_other o = rw (ne_eqb n 0 h, same_told last (key_at (stage_region m) 0) key false e o) refl
 
 -- THE BYTES. In a row of 1,294 bytes there is room for each version within the limits.
 module _ (v : Version) (out : List ℕ) (h : 1294 ≤ length out) where

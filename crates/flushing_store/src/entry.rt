@@ -99,6 +99,7 @@ fn take_turn(
     }
 }
 
+// The like of it stands in the other machine: one over a trait would need an array as long as the trait's constant, which there is not.
 pub fn step(memory: &mut [u64], kind: u64, n: u64, one: &[u8], two: &[u8], out: &mut [u64]) -> Told
     ensures { StepSays own memory.old kind n one.now two.now out.old (step_fits own memory.old kind one.now two.now out.old) result memory.new out.new }
 {

@@ -10,10 +10,9 @@ use crate::control::{DATA, ENTRIES, HAND, MEMORY, RING, STAGE};
 use crate::octets::put_octets;
 use crate::stage::stage;
 use memtable::moment_at;
-use std::cmp::Ordering;
 use store::{Bytes, read_key};
 use table::{Open, Writer};
-use value::{Version, encode, order};
+use value::{Version, encode};
 
 const NO_BOUND: u64 = 0xffff_ffff_ffff_ffff;
 
@@ -25,14 +24,14 @@ fn bound_for(memory: &[u64; MEMORY], blocks: u64, key: &[u8]) -> u64
         return NO_BOUND;
     }
     let stage = &memory[STAGE..RING];
-    match order(read_key(stage, 0).as_slice(), key) {
-        Ordering::Equal => moment_at(stage, 0),
-        Ordering::Less => NO_BOUND,
-        Ordering::Greater => NO_BOUND,
+    if read_key(stage, 0).as_slice() == key {
+        moment_at(stage, 0)
+    } else {
+        NO_BOUND
     }
 }
 
-// What a version brings. None where it is outside the limits.
+// What a version brings. None where it is outside the limits. The flag stands beside the bound, since whoever hands over asks it again.
 fn bring(begins: bool, bound: u64, version: Version<'_>) -> Option<Bytes<1302>>
     ensures { MatchOption result (in_limits (said version.entry) ≡ false) (λ b. (in_limits (said version.entry) ≡ true) × (take b.len b.row ≡ brought begins bound (said version.entry))) }
 {
