@@ -97,7 +97,7 @@ POINTS = [
     ("1 refusals by number", lines(r"No\(\d+\)")),
     ("1 kinds by number", lines(r"\bkind: u64")),
     ("2 twins", twins()),
-    ("3 loops over numbers", lines(r"\bfor .* in .*\.\.|^\s*while ")),
+    ("3 loops over numbers", lines(r"\bfor [\w']+ in [^\[{]*\.\.|^\s*while ")),
     ("4 conversion, comparison, printing by hand", lines(CONVERTS)),
     ("4 errors handed on by hand", lines(r"Err\(e\) => (?:return )?Err|if let Err\(e\)")),
     ("5 clauses in three or more functions", repeated_clauses()),
