@@ -30,6 +30,7 @@ pub fn write_shown(key: &[u8], value: &[u8], out: &mut [u64; ROW]) -> u64
         .saturating_add(value.len())
         .saturating_add(1)
         .min(ROW);
+    // By index: a loop over the row zipped with numbers leaves its proof without the values that were written.
     for i in 0..len {
         out[i] = shown_byte(key, value, i);
     }
