@@ -14,6 +14,7 @@ use Rattle.manifest.specs.declared.fields.Manifest.{Manifest}
 use Rattle.table.specs.Stages.{stage_of, stage_number}
 use Rattle.flushing_store.specs.Control.{memory_words, wraps, base, merging, phase_of, phase_number, base_words, base_from, manifest_words, manifest_from, lookup_words, lookup_from, merging_words, merging_from, control_of, put_control}
 use Rattle.store.specs.Regions.{region, within, wrap}
+use Rattle.flushing_store.proofs.WithinLaws.{length_wraps}
 use Rattle.store.proofs.RegionLaws.{length_within, region_same, region_above, region_below}
 use Rattle.flushing_store.specs.declared.control.Phase.{Phase}
 use Rattle.flushing_store.specs.declared.control.Phase.TheVariants.{Idle, Shown, FirstList, AfterWhole, AfterTorn, Getting, Writing, Merging as MergingPhase, Closed, Placed, Settled, Listed, Committed}
@@ -22,11 +23,6 @@ use Rattle.flushing_store.specs.declared.control.Merging.{Merging}
 use Rattle.flushing_store.specs.declared.control.Control.{Control}
 
 -- WORDS THAT ARE PUT
-length_wraps : (xs : List ℕ) → length (wraps xs) ≡ length xs
-unfolding wraps
-length_wraps [] = refl
-length_wraps (x ∷ xs) = ap suc (length_wraps xs)
-
 module _ (m : List ℕ) (k : Control) (l : length m ≡ memory_words) where
   abbrev one : List ℕ
   one = within 0 6 (λ x. wraps (base_words k.base)) m

@@ -24,6 +24,7 @@ fn spin(memory: &mut [u64; MEMORY], control: Control) -> Turn
         control,
         deed: None,
     };
+    // A counted loop with an early end: a fold over the rounds would hide that memory is written in each.
     'rounds: for i in 0..1024usize {
         if turn.deed.is_some() {
             break 'rounds;

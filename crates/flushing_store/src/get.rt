@@ -90,7 +90,7 @@ fn end_get(
     }
 }
 
-// A page came for a get.
+// A page came for a get. `write_on` begins alike; a closure for what follows would need a contract that is longer than these lines.
 pub fn get_on(
     memory: &mut [u64; MEMORY],
     control: Control,

@@ -70,7 +70,7 @@ pub fn give_memory(memory: &mut [u64; MEMORY], control: Control, at: u64) -> Tur
     }
 }
 
-// Hands over the version in the block.
+// Hands over the version in the block. What it walks on with is not what `give_memory` does; the frame of the two is one test.
 pub fn give_table(memory: &mut [u64; MEMORY], control: Control, block: &[u8], place: Place) -> Turn
     ensures turn { result ≡ (table_turn control memory.old block.now place).turn }
     ensures memory { memory.new ≡ (table_turn control memory.old block.now place).memory }

@@ -162,6 +162,7 @@ fn next_in_block(memory: &mut [u64; MEMORY], control: Control) -> Turn
     let entry = cursor.entry(&memory[LIST..HAND]);
     let mut row = [0u8; 1512];
     let len = block_into(entry, &memory[RING..LIST], &mut row);
+    // Filled and cut at once, in this one place: a `Bytes` of it would be written by its two fields.
     let block = part_of(&row, 0, len);
     hand_over(memory, control, block, cursor.head(block))
 }

@@ -71,7 +71,7 @@ fn seek_below(control: Control, moment: u64) -> Option<Lookup>
     begin(extent_of(control.manifest))
 }
 
-// Writes a version into memory, or says why not.
+// Writes a version into memory, or says why not: each check hands on its value or leaves with its number, which is a rule of the project.
 pub fn write(memory: &mut [u64; MEMORY], control: Control, version: Version<'_>) -> Told
     ensures { Quiet (wrote control memory.old (said version.entry)) result memory.new }
 {
@@ -124,6 +124,7 @@ fn finish(memory: &mut [u64; MEMORY], control: Control) -> Told
     )
 }
 
+// The like for a get goes on with other functions and the lent row: what the two share is their first four lines.
 // All pages came that were wanted: the key was written at this moment, or it was not, or more is wanted.
 fn end_look(memory: &mut [u64; MEMORY], control: Control, lookup: Lookup) -> Told
     ensures { Quiet (wrote_by control memory.old lookup) result memory.new }

@@ -12,6 +12,8 @@ pub const ARENA: usize = 16448;
 
 pub const ARENA_END: usize = 147520;
 
+// The memories of the machines are of other lengths, and begin with these words: so a slice that is long enough is asked for, and no array.
+
 // The place in the arena of the version that a reading wants.
 #[tactic(auto, unfolding(crate::specs::Regions::sought, crate::specs::Regions::region))]
 pub fn find(table: Memtable, memory: &[u64], key: &[u8], moment: u64) -> Option<u64>

@@ -35,7 +35,7 @@ fn put_version(
     );
 }
 
-// Writes a version into memory, or says why not.
+// Writes a version into memory, or says why not: each check hands on its value or leaves with its number, which is a rule of the project.
 pub fn write(memory: &mut [u64; MEMORY], control: Control, version: Version<'_>) -> Told
     ensures { Quiet (wrote control memory.old (said version.entry)) result memory.new }
 {
