@@ -1,5 +1,5 @@
 -- The machine's memory seen through its parts: what a change of one part leaves of the others, and that control words come back as they were put.
-use Rattle.std.proofs.Common.{◌≡◌, ℕ, suc, ◌<◌, ◌≤◌, Bool, true, false, eqb, List, [], ◌∷◌, length, refl, ap, ◌∙◌, arith}
+use Rattle.std.proofs.Common.{◌≡◌, ℕ, ◌<◌, ◌≤◌, Bool, true, false, eqb, List, length, refl, ap, ◌∙◌, arith}
 use Rattle.memtable.specs.Memtable.{memtable}
 use Rattle.table.specs.declared.cursor.Cursor.{Cursor}
 use Rattle.table.specs.declared.lookup.Lookup.{Lookup}
