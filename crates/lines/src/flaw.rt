@@ -16,18 +16,26 @@ pub enum Flaw {
     NoBlank,
 }
 
-// What is wrong, in words.
-impl fmt::Display for Flaw {
-    ghost output = { λ flaw. Some (reason_of flaw) };
-
-    fn fmt<W: fmt::Write>(&self, f: &mut fmt::Formatter<W>) -> fmt::Result {
-        f.write_str(match self {
+impl Flaw {
+    // What is wrong, in words.
+    pub fn reason(self) -> &'static str
+        ensures { result.now ≡ reason_of self }
+    {
+        match self {
             Flaw::NoMemory => "there is no memory for so long a line",
             Flaw::NotClosed => "a double quote is not closed",
             Flaw::NoEscape => "after \\ in quotes comes \", \\, n, t or xNN",
             Flaw::NoHexDigit => "after \\x come two hexadecimal digits",
             Flaw::NoBlank => "after a closing quote comes a blank",
-        })
+        }
+    }
+}
+
+impl fmt::Display for Flaw {
+    ghost output = { λ flaw. Some (reason_of flaw) };
+
+    fn fmt<W: fmt::Write>(&self, f: &mut fmt::Formatter<W>) -> fmt::Result {
+        f.write_str(self.reason())
     }
 }
 

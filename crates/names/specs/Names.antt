@@ -1,8 +1,7 @@
 -- The names of the commands.
 --   name_of      which command a word names
---   usage_of     how a line of a command is written
---   form_of      what is said of a line that is written otherwise
-use Rattle.std.specs.Prelude.{ℕ, cond, List, ◌++◌, Some, None, codes, Option}
+--   form_of      what a line of a command is expected to be
+use Rattle.std.specs.Prelude.{ℕ, cond, List, Some, None, codes, Option}
 use Rattle.std.specs.Str.{bytes_eq}
 use Rattle.names.specs.declared.name.Name.{Name}
 use Rattle.names.specs.declared.name.Name.TheVariants as name
@@ -22,19 +21,16 @@ name_of bs =
     cond (bytes_eq bs (codes "help")) (Some name.Help) (
     cond (bytes_eq bs (codes "quit")) (Some name.Quit) None)))))))))))
 
-abbrev pub usage_of : Name → List ℕ
-usage_of name.Write = codes "write KEY MOMENT VALUE"
-usage_of name.Erase = codes "erase KEY MOMENT"
-usage_of name.Get = codes "get KEY MOMENT"
-usage_of name.Range = codes "range FROM TO MOMENT"
-usage_of name.First = codes "first MOMENT"
-usage_of name.Last = codes "last MOMENT"
-usage_of name.Count = codes "count MOMENT"
-usage_of name.Flush = codes "flush"
-usage_of name.Compact = codes "compact MOMENT"
-usage_of name.Power = codes "power, or power after N [LEFT ..]"
-usage_of name.Help = codes "help"
-usage_of name.Quit = codes "quit"
-
 abbrev pub form_of : Name → List ℕ
-form_of n = codes "what is expected is: " ++ usage_of n
+form_of name.Write = codes "what is expected is: write KEY MOMENT VALUE"
+form_of name.Erase = codes "what is expected is: erase KEY MOMENT"
+form_of name.Get = codes "what is expected is: get KEY MOMENT"
+form_of name.Range = codes "what is expected is: range FROM TO MOMENT"
+form_of name.First = codes "what is expected is: first MOMENT"
+form_of name.Last = codes "what is expected is: last MOMENT"
+form_of name.Count = codes "what is expected is: count MOMENT"
+form_of name.Flush = codes "what is expected is: flush"
+form_of name.Compact = codes "what is expected is: compact MOMENT"
+form_of name.Power = codes "what is expected is: power, or power after N [LEFT ..]"
+form_of name.Help = codes "what is expected is: help"
+form_of name.Quit = codes "what is expected is: quit"

@@ -19,19 +19,27 @@ pub enum Flaw {
     Form(Name),
 }
 
-// What is wrong, in words.
+impl Flaw {
+    // What is wrong, in words.
+    pub fn reason(self) -> &'static str
+        ensures { result.now ≡ reason_of self }
+    {
+        match self {
+            Flaw::NoMemory => "there is no memory for so long a line",
+            Flaw::NoSuchCommand => "there is no such command; help lists them",
+            Flaw::NoMoment => "a moment is a number from 0 to 18446744073709551615",
+            Flaw::NoActs => "a number of acts is from 0 to 18446744073709551615",
+            Flaw::NoPart => "what is left of a page is 0, 1 or 2",
+            Flaw::Form(called) => called.form(),
+        }
+    }
+}
+
 impl fmt::Display for Flaw {
     ghost output = { λ flaw. Some (reason_of flaw) };
 
     fn fmt<W: fmt::Write>(&self, f: &mut fmt::Formatter<W>) -> fmt::Result {
-        match self {
-            Flaw::NoMemory => f.write_str("there is no memory for so long a line"),
-            Flaw::NoSuchCommand => f.write_str("there is no such command; help lists them"),
-            Flaw::NoMoment => f.write_str("a moment is a number from 0 to 18446744073709551615"),
-            Flaw::NoActs => f.write_str("a number of acts is from 0 to 18446744073709551615"),
-            Flaw::NoPart => f.write_str("what is left of a page is 0, 1 or 2"),
-            Flaw::Form(called) => write!(f, "what is expected is: {called}"),
-        }
+        f.write_str(self.reason())
     }
 }
 

@@ -1,8 +1,6 @@
 // The names of the commands.
-ghost use Rattle.std.specs.Prelude.{◌≡◌, Some};
-ghost use Rattle.names.specs.Names.{name_of, usage_of};
-
-use std::fmt;
+ghost use Rattle.std.specs.Prelude.{◌≡◌};
+ghost use Rattle.names.specs.Names.{name_of, form_of};
 
 // The first word of a command.
 #[derive(Clone, Copy, Debug, PartialEq, Eq)]
@@ -21,25 +19,25 @@ pub enum Name {
     Quit,
 }
 
-// How a line of this command is written.
-impl fmt::Display for Name {
-    ghost output = { λ name. Some (usage_of name) };
-
-    fn fmt<W: fmt::Write>(&self, f: &mut fmt::Formatter<W>) -> fmt::Result {
-        f.write_str(match self {
-            Name::Write => "write KEY MOMENT VALUE",
-            Name::Erase => "erase KEY MOMENT",
-            Name::Get => "get KEY MOMENT",
-            Name::Range => "range FROM TO MOMENT",
-            Name::First => "first MOMENT",
-            Name::Last => "last MOMENT",
-            Name::Count => "count MOMENT",
-            Name::Flush => "flush",
-            Name::Compact => "compact MOMENT",
-            Name::Power => "power, or power after N [LEFT ..]",
-            Name::Help => "help",
-            Name::Quit => "quit",
-        })
+impl Name {
+    // What a line of this command is expected to be.
+    pub fn form(self) -> &'static str
+        ensures { result.now ≡ form_of self }
+    {
+        match self {
+            Name::Write => "what is expected is: write KEY MOMENT VALUE",
+            Name::Erase => "what is expected is: erase KEY MOMENT",
+            Name::Get => "what is expected is: get KEY MOMENT",
+            Name::Range => "what is expected is: range FROM TO MOMENT",
+            Name::First => "what is expected is: first MOMENT",
+            Name::Last => "what is expected is: last MOMENT",
+            Name::Count => "what is expected is: count MOMENT",
+            Name::Flush => "what is expected is: flush",
+            Name::Compact => "what is expected is: compact MOMENT",
+            Name::Power => "what is expected is: power, or power after N [LEFT ..]",
+            Name::Help => "what is expected is: help",
+            Name::Quit => "what is expected is: quit",
+        }
     }
 }
 
