@@ -29,6 +29,7 @@ impl Filled {
 
     // Inserts n versions, each of a key of its own, at rising moments.
     pub fn fill(&mut self, n: u64) {
+        // By number: a key is made of each, and it is the moment too.
         for moment in 0..n {
             let key = key(moment);
             let version = Version {

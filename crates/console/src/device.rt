@@ -130,7 +130,7 @@ impl Device {
         }
     }
 
-    // Lets a page wait, and says whether there is a page of that number.
+    // Lets a page wait, and says whether there is a page of that number: there is no value to give beside the answer.
     pub fn put(&mut self, at: u64, page: [u8; PAGE]) -> Result<bool, Trouble>
         ensures there { IfOk result (λ b. b ≡ nat_lt at self.old.pages) }
         ensures waits { IfOk result (λ b. self.new.queue.items ≡ with_page b at page self.old.queue.items) }

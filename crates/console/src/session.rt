@@ -17,9 +17,6 @@ use store::Told;
 // More acts than any command takes.
 const TURNS: u64 = 1 << 40;
 
-// The longest row that the machine tells.
-const ROW: usize = 1280;
-
 #[derive(Clone, Copy)]
 enum End {
     Done,
@@ -71,7 +68,7 @@ impl<M: Machine + Drop> Session<M> {
         let mut session = Session {
             machine: PhantomData,
             memory: zeros(rt.alloc(), M::MEMORY)?,
-            out: zeros(rt.alloc(), ROW)?,
+            out: zeros(rt.alloc(), store::ROW)?,
             page: [0u8; PAGE],
             device,
             cut: None,
@@ -150,6 +147,7 @@ impl<M: Machine + Drop> Session<M> {
         notes: &mut Notes,
     ) -> Result<End, Trouble> {
         let mut event = first;
+        // Acts are counted, and nothing is walked by their number.
         for _ in 0..acts {
             let told = tell::<M>(
                 self.memory.as_mut_slice(),

@@ -11,6 +11,7 @@ pub trait Machine {
     // How many words of memory it is lent.
     const MEMORY: usize;
 
+    // Events go by number here, since the step of a machine takes them so.
     fn step(memory: &mut [u64], kind: u64, n: u64, one: &[u8], two: &[u8], out: &mut [u64]) -> Told
         ensures { Steps memory.old (kind, n, one.now, two.now) out.old result memory.new out.new };
 }

@@ -14,7 +14,7 @@ pub struct Acts {
     pub settle: u64,
 }
 
-// By hand: what a count starts from stands in the text.
+// By hand, so that what a count starts from stands in the text, which an edit turns.
 impl Default for Acts {
     ghost is_default = { λ a. a ≡ no_acts };
 

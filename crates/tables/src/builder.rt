@@ -90,6 +90,7 @@ impl<'a> Builder<'a> {
 
     // Does what is due, until that is the next version.
     fn work_off(&mut self) -> anyhow::Result<()> {
+        // Rounds, of which no row is walked by.
         for _ in 0..MOST_DUE {
             match self.writer.due() {
                 Due::Data => {

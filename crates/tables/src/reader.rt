@@ -3,7 +3,7 @@ use crate::version::Version;
 use anyhow::anyhow;
 use std::alloc::Global;
 use std::iter;
-use table::{Search, bound, find, first, head_key, is_ahead, next, payload, sound, span_at};
+use table::{Entry, Search, bound, find, first, head_key, is_ahead, next, payload, sound, span_at};
 use value::{part_of, read_u32, version_of};
 
 // As many bytes of a block tell its bound and the key of its first version: 8 + 15 + 255.
@@ -18,13 +18,6 @@ pub struct Table {
     pub data: Vec<u8>,
     pub positions: Vec<u8>,
     pub blocks: u64,
-}
-
-// Where a block begins in the stream, and its length.
-#[derive(Clone, Copy)]
-struct Entry {
-    begin: u64,
-    len: u64,
 }
 
 fn page_at(pages: &[u8], i: u64) -> &[u8] {
@@ -121,6 +114,7 @@ impl Table {
     // All versions, block by block.
     pub fn walk(&self, heap: Global) -> anyhow::Result<Vec<Version>> {
         let mut versions = Vec::new(heap);
+        // Blocks by their numbers: each is read from pages, and reading may fail.
         for block in 0..self.blocks {
             self.walk_block(heap, block, &mut versions)?;
         }

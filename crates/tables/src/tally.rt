@@ -85,6 +85,7 @@ fn ask_all(
 
 fn count_others(heap: Global, table: &Table) -> anyhow::Result<u64> {
     let mut found = 0u64;
+    // A key is made of each number, and each question may fail.
     for i in 0..OTHERS {
         let answer = table.read(heap, &other_key(i), u64::MAX)?;
         found = count(found, answer.is_some());

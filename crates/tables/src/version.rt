@@ -1,4 +1,4 @@
-// A version as the program has it.
+// A version as the program has it: with a flag beside the value, as `value`'s has it.
 use std::alloc::{AllocError, Global};
 use value::Version as Said;
 
