@@ -1,4 +1,6 @@
 // A memtable with its two rows of words, filled in an order of keys that jumps about.
+ghost use Rattle.std.specs.Prelude.{◌≡◌};
+
 use memtable::{ARENA_WORDS, INDEX_WORDS, Memtable, empty};
 use std::alloc::{AllocError, Global};
 use value::Version;
@@ -53,11 +55,15 @@ impl Filled {
             .count()
     }
 
-    pub fn versions(&self) -> u64 {
+    pub fn versions(&self) -> u64
+        ensures { result ≡ self.now.table.versions }
+    {
         self.table.versions
     }
 
-    pub fn weight(&self) -> u64 {
+    pub fn weight(&self) -> u64
+        ensures { result ≡ self.now.table.weight }
+    {
         self.table.weight
     }
 }

@@ -1,4 +1,6 @@
 // Reads a table from its pages.
+ghost use Rattle.std.specs.Prelude.{◌≡◌, ◌/◌, length};
+
 use crate::version::Version;
 use anyhow::anyhow;
 use std::alloc::Global;
@@ -43,11 +45,15 @@ fn load(heap: Global, pages: &[u8], at: u64, len: u64) -> anyhow::Result<Vec<u8>
 }
 
 impl Table {
-    pub fn data_pages(&self) -> usize {
+    pub fn data_pages(&self) -> usize
+        ensures { result ≡ length self.now.data.items / 512 }
+    {
         self.data.len() / 512
     }
 
-    pub fn position_pages(&self) -> usize {
+    pub fn position_pages(&self) -> usize
+        ensures { result ≡ length self.now.positions.items / 512 }
+    {
         self.positions.len() / 512
     }
 

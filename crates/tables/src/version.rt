@@ -1,4 +1,6 @@
 // A version as the program has it: with a flag beside the value, as `value`'s has it.
+ghost use Rattle.std.specs.Prelude.{◌≡◌, true, false, IfOk};
+
 use std::alloc::{AllocError, Global};
 use value::Version as Said;
 
@@ -12,7 +14,12 @@ pub struct Version {
 
 impl Version {
     // The version that is said, in memory of its own.
-    pub fn owned(heap: Global, said: Said<'_>) -> Result<Version, AllocError> {
+    pub fn owned(heap: Global, said: Said<'_>) -> Result<Version, AllocError>
+        ensures key { IfOk result (λ v. v.key.items ≡ said.entry.key.now) }
+        ensures moment { IfOk result (λ v. v.moment ≡ said.entry.moment) }
+        ensures gone { IfOk result (λ v. v.gone ≡ said.entry.gone) }
+        ensures value { IfOk result (λ v. v.value.items ≡ said.entry.value.now) }
+    {
         Ok(Version {
             key: Vec::from_slice(heap, said.key)?,
             moment: said.moment,
@@ -21,7 +28,11 @@ impl Version {
         })
     }
 
-    pub fn new(heap: Global, key: &[u8], moment: u64, value: &[u8]) -> Result<Version, AllocError> {
+    pub fn new(heap: Global, key: &[u8], moment: u64, value: &[u8]) -> Result<Version, AllocError>
+        ensures gone { IfOk result (λ v. v.gone ≡ false) }
+        ensures key { IfOk result (λ v. v.key.items ≡ key.now) }
+        ensures value { IfOk result (λ v. v.value.items ≡ value.now) }
+    {
         Version::owned(
             heap,
             Said {
@@ -33,7 +44,10 @@ impl Version {
         )
     }
 
-    pub fn erasure(heap: Global, key: &[u8], moment: u64) -> Result<Version, AllocError> {
+    pub fn erasure(heap: Global, key: &[u8], moment: u64) -> Result<Version, AllocError>
+        ensures gone { IfOk result (λ v. v.gone ≡ true) }
+        ensures key { IfOk result (λ v. v.key.items ≡ key.now) }
+    {
         Version::owned(
             heap,
             Said {
