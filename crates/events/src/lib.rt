@@ -4,7 +4,9 @@
 mod event;
 mod machine;
 mod notes;
+mod on_pages;
 
 pub use event::{Event, Reply, forget, tell};
 pub use machine::Machine;
 pub use notes::{Acts, counts, late_after, shows};
+pub use on_pages::OnPages;

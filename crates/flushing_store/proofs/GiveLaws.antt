@@ -1,5 +1,5 @@
 -- A version is handed over: its bound, and the bytes that it brings.
-use Rattle.std.proofs.Common.{◌≡◌, ℕ, ◌+◌, ◌<◌, ◌≤◌, Bool, true, false, List, [], ◌++◌, length, take, drop, Some, None, refl, ap, ◌∙◌, append_assoc, arith, length-append, length-drop, length-take, ne_eqb, bytes_eq}
+use Rattle.std.proofs.Common.{◌≡◌, ℕ, ◌+◌, ◌<◌, ◌≤◌, Bool, true, false, List, [], ◌++◌, length, take, drop, Some, None, sym, refl, ap, ◌∙◌, append_assoc, arith, length-append, length-drop, length-take, ne_eqb, bytes_eq}
 use Rattle.std.proofs.lemmas.List.{take_at}
 use Rattle.value.specs.Versions.{pick, Version, version}
 use Rattle.value.specs.Numbers.{bytes_of}
@@ -55,14 +55,14 @@ module _ (v : Version) (out : List ℕ) (h : 1294 ≤ length out) where
   short_written n e = let (a, b) = some_written n e in let l = limits_parts (length v.key) v.moment v.gone (length v.value) a in omega arith
 
   -- at the front
-  pub bring_plain : (s n : ℕ) (row : List ℕ) → Some n ≡ written_length v out → row ≡ written v out → (in_limits v ≡ true) × (take n row ≡ brought false s v)
+  pub bring_plain : (s n : ℕ) (row : List ℕ) → Some n ≡ written_length v out → row ≡ written v out → (in_limits v ≡ true) × ((n ≡ length (brought false s v)) × (take n row ≡ brought false s v))
   bring_plain s n row f g =
       let (t, k) = some_written n f in
-      (t, ap (take n) (g ∙ bytes_are t) ∙ take_at (encoding v) (drop (encoded_length v) out) n (omega (arith, length_encoding v)))
+      (t, (k ∙ sym (length_encoding v), ap (take n) (g ∙ bytes_are t) ∙ take_at (encoding v) (drop (encoded_length v) out) n (omega (arith, length_encoding v))))
 
   -- behind a bound
   pub bring_bound : (s n : ℕ) (cp post row rest : List ℕ) → Some n ≡ written_length v out → cp ≡ bytes_of 8 s → row ≡ written v out →
-      (in_limits v ≡ true) × (take (8 + n) (take 8 (cp ++ post) ++ (row ++ rest)) ≡ brought true s v)
+      (in_limits v ≡ true) × ((8 + n ≡ length (brought true s v)) × (take (8 + n) (take 8 (cp ++ post) ++ (row ++ rest)) ≡ brought true s v))
   bring_bound s n cp post row rest f g w =
       let (t, k) = some_written n f in
       let B = bytes_of 8 s in
@@ -71,7 +71,10 @@ module _ (v : Version) (out : List ℕ) (h : 1294 ≤ length out) where
       let front : take 8 (cp ++ post) ≡ B = ap (λ x. take 8 (x ++ post)) g ∙ take_at B post 8 (length_bytes_of 8 s) in
       let joined : B ++ ((encoding v ++ D) ++ rest) ≡ (B ++ encoding v) ++ (D ++ rest) = simp append_assoc in (
         t,
-        (λ i. take (8 + n) (front i ++ ((w ∙ bytes_are t) i ++ rest))) ∙ ap (take (8 + n)) joined ∙ take_at (B ++ encoding v) (D ++ rest) (8 + n) size,
+        (
+          sym size,
+          (λ i. take (8 + n) (front i ++ ((w ∙ bytes_are t) i ++ rest))) ∙ ap (take (8 + n)) joined ∙ take_at (B ++ encoding v) (D ++ rest) (8 + n) size,
+        ),
       )
 
 -- behind a bound there is room for it in a row of 1,302

@@ -1,6 +1,6 @@
 // A version is handed over to the writer of a table: its bytes go to the hand, behind a bound where it begins a block, and the entry of the block that it ends
 // to the page of positions.
-ghost use Rattle.std.specs.Prelude.{◌≡◌, true, false, take, MatchOption};
+ghost use Rattle.std.specs.Prelude.{◌≡◌, true, false, length, take, MatchOption};
 ghost use Rattle.value.specs.Said.{said};
 ghost use Rattle.value.specs.Encoding.{in_limits};
 ghost use Rattle.table.specs.Layout.{entry};
@@ -33,7 +33,7 @@ fn bound_for(memory: &[u64; MEMORY], blocks: u64, key: &[u8]) -> u64
 
 // What a version brings. None where it is outside the limits. The flag stands beside the bound, since whoever hands over asks it again.
 fn bring(begins: bool, bound: u64, version: Version<'_>) -> Option<Bytes<1302>>
-    ensures { MatchOption result (in_limits (said version.entry) ≡ false) (λ b. (in_limits (said version.entry) ≡ true) × (take b.len b.row ≡ brought begins bound (said version.entry))) }
+    ensures { MatchOption result (in_limits (said version.entry) ≡ false) (λ b. (in_limits (said version.entry) ≡ true) × ((b.len ≡ length (brought begins bound (said version.entry))) × (take b.len b.row ≡ brought begins bound (said version.entry)))) }
 {
     let mut row = [0; 1302];
     if begins {

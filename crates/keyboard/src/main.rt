@@ -1,9 +1,7 @@
 // The store that keeps on pages what was flushed, at a keyboard.
 #![tactic(auto)]
 
-mod machine;
-
-use machine::OnPages;
+use events::OnPages;
 use std::process::ExitCode;
 
 fn main(rt: HostRuntime) -> ExitCode {

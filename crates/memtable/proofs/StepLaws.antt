@@ -28,24 +28,35 @@ pub appended_none : (arena : List ℕ) (used : ℕ) (v : Version) → false ≡ 
 unfolding appended
 appended_none arena used v e = rw (← e) refl
 
-pub appended_whole : (arena with_key whole : List ℕ) (used n h : ℕ) (v : Version) → true ≡ has_room (length arena) used (length v.key) (length v.value) → v.moment < 18446744073709551616 →
-    h ≡ measures (length v.key) (length v.value) v.gone → n ≡ words (length v.key) →
-    with_key ≡ put_row (set (set arena used v.moment) (used + 1) h) (used + 2) (pack v.key) → whole ≡ put_row with_key (used + 2 + n) (pack v.value) →
-    whole ≡ appended arena used v
+pub appended_whole : (arena : List ℕ) (used : ℕ) (v : Version) → has_room (length arena) used (length v.key) (length v.value) ≡ true →
+    put_row (put_row (set (set arena used (wrap v.moment)) (used + 1) (measures (length v.key) (length v.value) v.gone)) (used + 2) (pack v.key))
+    (used + 2 + words (length v.key)) (pack v.value) ≡
+    appended arena used v
 unfolding appended encoded
-appended_whole arena with_key whole used n h v e small g k f l =
-    let m = v.moment in
-    let w : wrap m ≡ m = omega arith in
-    let r = room_there (length arena) used (length v.key) (length v.value) (sym e) in
+appended_whole arena used v e =
+    let m = wrap v.moment in
+    let h = measures (length v.key) (length v.value) v.gone in
+    let r = room_there (length arena) used (length v.key) (length v.value) e in
     let a : set arena used m ≡ put_row arena used (m ∷ []) = put_one arena used m (omega arith) in
     let b : set (set arena used m) (used + 1) h ≡ put_row arena used (m ∷ h ∷ []) =
     put_one (set arena used m) (used + 1) h (simp length-set (omega arith)) ∙ ap (λ ws. put_row ws (used + 1) (h ∷ [])) a
     ∙ put_put arena used (used + 1) (m ∷ []) (h ∷ []) (omega arith) (omega arith) in
-    let d : with_key ≡ put_row arena used (m ∷ h ∷ pack v.key) =
-    f ∙ ap (λ ws. put_row ws (used + 2) (pack v.key)) b ∙ put_put arena used (used + 2) (m ∷ h ∷ []) (pack v.key) (omega arith) (omega arith) in
-    l ∙ ap (λ ws. put_row ws (used + 2 + n) (pack v.value)) d
-    ∙ put_put arena used (used + 2 + n) (m ∷ h ∷ pack v.key) (pack v.value) (omega (arith, length_pack v.key)) (omega arith)
-    ∙ rw (← e, w, g) refl
+    let d : put_row (set (set arena used m) (used + 1) h) (used + 2) (pack v.key) ≡ put_row arena used (m ∷ h ∷ pack v.key) =
+    ap (λ ws. put_row ws (used + 2) (pack v.key)) b ∙ put_put arena used (used + 2) (m ∷ h ∷ []) (pack v.key) (omega arith) (omega arith) in
+    ap (λ ws. put_row ws (used + 2 + words (length v.key)) (pack v.value)) d
+    ∙ put_put arena used (used + 2 + words (length v.key)) (m ∷ h ∷ pack v.key) (pack v.value) (omega (arith, length_pack v.key)) (omega arith)
+    ∙ rw e refl
+
+-- the same, by what was written: a moment is below 2^64 there
+pub appended_by : (arena with_key whole : List ℕ) (used n h : ℕ) (v : Version) → true ≡ has_room (length arena) used (length v.key) (length v.value) → v.moment < 18446744073709551616 →
+    h ≡ measures (length v.key) (length v.value) v.gone → n ≡ words (length v.key) →
+    with_key ≡ put_row (set (set arena used v.moment) (used + 1) h) (used + 2) (pack v.key) → whole ≡ put_row with_key (used + 2 + n) (pack v.value) →
+    whole ≡ appended arena used v
+appended_by arena with_key whole used n h v e small g k f l =
+    let w : v.moment ≡ wrap v.moment = omega arith in
+    let d : with_key ≡ put_row (set (set arena used (wrap v.moment)) (used + 1) (measures (length v.key) (length v.value) v.gone)) (used + 2) (pack v.key) =
+    f ∙ (λ i. put_row (set (set arena used (w i)) (used + 1) (g i)) (used + 2) (pack v.key)) in
+    l ∙ (λ i. put_row (d i) (used + 2 + k i) (pack v.value)) ∙ appended_whole arena used v (sym e)
 
 pub entered_none : (index : List ℕ) (n at p : ℕ) → (leb at n && ltb n (length index)) ≡ false → index ≡ entered index n at p
 unfolding entered

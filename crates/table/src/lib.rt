@@ -25,7 +25,7 @@ pub use laws::{
 pub use load::Load;
 pub use lookup::{Entry, Extent, Lookup, Stage, begin};
 pub use page::{fill, payload};
-pub use row::{octets, place_payload};
+pub use row::{octets, place_payload, read_octets};
 pub use search::{Search, is_ahead};
 pub use span::{Span, span_at};
 pub use sum::{page_sum, seal, sound};

@@ -44,3 +44,12 @@ pub fn octets<const N: usize>(row: &[u64]) -> [u8; N]
 {
     array::from_fn(|i| octet(row, i))
 }
+
+// The same over a lent row, as long as that is.
+pub fn read_octets(row: &[u64], out: &mut [u8])
+    ensures { out.new ≡ octets_of (length out.old) row.now }
+{
+    for (i, b) in out.iter_mut().enumerate() {
+        *b = octet(row, i);
+    }
+}

@@ -1,5 +1,7 @@
 // A version as the program has it: with a flag beside the value, as `value`'s has it.
 ghost use Rattle.std.specs.Prelude.{◌≡◌, true, false, IfOk};
+ghost use Rattle.value.specs.Said.{said};
+ghost use Rattle.value.specs.Versions.{version};
 
 use std::alloc::{AllocError, Global};
 use value::Version as Said;
@@ -59,7 +61,9 @@ impl Version {
         )
     }
 
-    pub fn said(&self) -> Said<'_> {
+    pub fn said(&self) -> Said<'_>
+        ensures { said result ≡ version self.now.key.items self.now.moment self.now.gone self.now.value.items }
+    {
         Said {
             key: &self.key,
             moment: self.moment,

@@ -26,6 +26,12 @@ limits_parts k m g n e =
     let s = and_parts _ _ r.1 in
     record { some = ltb-true _ _ p.0; short = ltb-true _ _ q.0; early = ltb-true _ _ r.0; small = leb-true _ _ s.0; empty = s.1 }
 
+pub limits_true : (k m : ℕ) (g : Bool) (n : ℕ) → Limits k m g n → limits k m g n ≡ true
+unfolding limits
+limits_true k m g n l =
+    and_from _ _ (lt-ltb _ _ l.some)
+    (and_from _ _ (lt-ltb _ _ l.short) (and_from _ _ (lt-ltb _ _ l.early) (and_from _ _ (le-leb _ _ l.small) l.empty)))
+
 -- the test of what bytes begin with, and what it says
 pub record Stands (bs : List ℕ) : Type 0 where
   pub long : 15 ≤ length bs
@@ -209,6 +215,20 @@ version_there row at =
     let e : drop (at + 15) row ≡ drop 15 (drop at row) = sym (drop-drop 15 at row) in
     let f : drop (at + 15 + k) row ≡ drop (15 + k) (drop at row) = ap (λ t. drop t row) n ∙ sym (drop-drop (15 + k) at row) in
     (λ i. version (take k (e i)) (moment_in (drop at row)) (gone_in (drop at row)) (take (value_length (drop at row)) (f i)))
+
+pub end_there : (row : List ℕ) (at : ℕ) → drop (end_of (place_in (drop at row) at)) row ≡ drop (size_in (drop at row)) (drop at row)
+end_there row at =
+    let n : at + 15 + key_length (drop at row) + value_length (drop at row) ≡ at + size_in (drop at row) = omega arith in
+    ap (λ t. drop t row) n ∙ sym (drop-drop (size_in (drop at row)) at row)
+
+-- what stands is in limits
+pub version_in_limits : (bs : List ℕ) → Stands bs → in_limits (version_in bs) ≡ true
+version_in_limits bs s =
+    let d = length-drop 15 bs in
+    let e = length-drop (15 + key_length bs) bs in
+    let k : length (part 15 (key_length bs) bs) ≡ key_length bs = length-take-le _ _ (omega (arith, s.room)) in
+    let n : length (part (15 + key_length bs) (value_length bs) bs) ≡ value_length bs = length-take-le _ _ (omega (arith, s.room)) in
+    (λ i. limits (k i) (moment_in bs) (gone_in bs) (n i)) ∙ s.limited
 
 pub parse_reads_encode : ParseReadsEncode
 unfolding parsed

@@ -1,11 +1,12 @@
 -- Encoded lists of versions: they read back, and a walk by places goes through them.
-use Rattle.std.proofs.Common.{◌≡◌, ℕ, zero, suc, ◌+◌, ◌*◌, ◌<◌, ◌≤◌, Bool, true, false, List, [], ◌∷◌, ◌++◌, length, drop, replicate, sym, refl, ap, ◌∙◌, arith}
+use Rattle.std.proofs.Common.{◌≡◌, ℕ, zero, suc, ◌+◌, ◌*◌, ◌<◌, ◌≤◌, Bool, true, false, List, [], ◌∷◌, ◌++◌, length, drop, replicate, Some, None, sym, refl, ap, ◌∙◌, arith}
 use Rattle.std.proofs.lemmas.List.{append_assoc, append-nil, length-append, length-drop}
 use Rattle.value.specs.Versions.{pick, every, added_up, weight, Version}
 use Rattle.value.specs.Numbers.{all_bytes, is_byte}
-use Rattle.value.specs.Encoding.{in_limits, fits, encoding, key_length, size_in, stands, version_in, encode_all, parse_all, versions_in, EncodingSound, ListsReadBack}
+use Rattle.value.specs.Encoding.{in_limits, fits, encoding, key_length, size_in, stands, version_in, parsed, version_at, end_of, encode_all, parse_all, versions_in, EncodingSound, ListsReadBack}
+use Rattle.value.specs.declared.version.Place.{Place}
 use Rattle.value.proofs.TestLaws.{and_left_of, and_right_of, every_append, every_mono}
-use Rattle.value.proofs.EncodingLaws.{stands_true, stands_parts, stands_false, says, limits_parts, length_encoding, all_bytes_encoding}
+use Rattle.value.proofs.EncodingLaws.{stands_true, stands_parts, stands_false, says, limits_parts, version_in_limits, length_encoding, all_bytes_encoding, found_there, none_there, version_there, end_there}
 
 -- how often to look does not matter once it is as often as there are bytes
 enough : (n m : ℕ) (bs : List ℕ) → length bs ≤ n → length bs ≤ m → parse_all n bs ≡ parse_all m bs
@@ -36,6 +37,31 @@ versions_first bs t =
 pub versions_none : (bs : List ℕ) → stands bs ≡ false → versions_in bs ≡ []
 unfolding versions_in parse_all
 versions_none bs t = enough (length bs) (suc (length bs)) bs (omega arith) (omega arith) ∙ rw t refl
+
+-- all that are read are in limits
+all_limited : (n : ℕ) (bs : List ℕ) → every in_limits (parse_all n bs) ≡ true
+unfolding parse_all every
+all_limited zero bs = refl
+all_limited (suc n) bs = go (stands bs) refl (all_limited n (drop (size_in bs) bs))
+  where
+    go : (b : Bool) → stands bs ≡ b → every in_limits (parse_all n (drop (size_in bs) bs)) ≡ true →
+        every in_limits (pick b (version_in bs ∷ parse_all n (drop (size_in bs) bs)) []) ≡ true
+    go true t ih = rw (version_in_limits bs (stands_parts bs t)) ih
+    go false t ih = refl
+
+pub versions_in_limits : (bs : List ℕ) → every in_limits (versions_in bs) ≡ true
+unfolding versions_in
+versions_in_limits bs = all_limited (length bs) bs
+
+-- a walk by places: the version at the place that was found, and those from its end on
+pub walk_on : (row : List ℕ) (at : ℕ) (p : Place) → parsed row at ≡ Some p → versions_in (drop at row) ≡ version_at row p ∷ versions_in (drop (end_of p) row)
+walk_on row at p e =
+    let f = found_there row at p e in
+    versions_first (drop at row) (stands_true _ f.stand)
+    ∙ (λ i. (sym (version_there row at) ∙ ap (version_at row) (sym f.is)) i ∷ versions_in ((sym (end_there row at) ∙ ap (λ t. drop (end_of t) row) (sym f.is)) i))
+
+pub walk_end : (row : List ℕ) (at : ℕ) → parsed row at ≡ None → versions_in (drop at row) ≡ []
+walk_end row at e = versions_none (drop at row) (none_there row at e)
 
 pub versions_append : (vs : List Version) (bs : List ℕ) → every in_limits vs ≡ true → versions_in (encode_all vs ++ bs) ≡ vs ++ versions_in bs
 unfolding encode_all every

@@ -17,6 +17,6 @@ returns c =
     elim c.if-begins.branch [ then-begins t ↦ simp t.if-begins.true (t.memory-is ∙ t.end_block.ensures) | else-begins t ↦ simp t.if-begins.false t.memory-is ] in
     let p = given w c.give.result (said c.args.version) c.args.memory.now c.begins-begins.result c.bound_for-bound.result c.saturating_add-size.result
     c.as_slice.result.now c.put_in_hand.new.memory c.if-begins.memory c.stage.new.memory c.in_ok-bytes.ensures.0
-    (λ h l. omega (arith, c.saturating_add.ensures, c.saturating_add-size.ensures)) c.begins-begins.ensures c.bound_for-bound.ensures (c.as_slice.ensures ∙ c.in_ok-bytes.ensures.1) c.put_in_hand.ensures entry
+    (λ h l. omega (arith, c.saturating_add.ensures, c.saturating_add-size.ensures)) c.begins-begins.ensures c.bound_for-bound.ensures (c.as_slice.ensures ∙ c.in_ok-bytes.ensures.1.1) c.put_in_hand.ensures entry
     c.stage.ensures c.give.ensures in
     record { writer = p.0; memory = p.1 }

@@ -2,7 +2,7 @@
 ghost use Rattle.flushing_store.specs.Own.{own};
 ghost use Rattle.events.specs.Events.{steps_of};
 
-use events::Machine;
+use crate::machine::Machine;
 use store::Told;
 
 #[derive(Drop)]
